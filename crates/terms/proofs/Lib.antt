@@ -1,0 +1,5 @@
+pub mod Decide
+pub mod Tables
+pub mod Examples
+pub mod AlteredG
+pub mod WorkedTexts

@@ -1,0 +1,11 @@
+pub mod Rows
+pub mod Graphs
+pub mod Paths
+pub mod Verdicts
+pub mod Plans
+pub mod ListRule
+pub mod Refusals
+pub mod Replies
+pub mod Alterations
+pub mod Texts
+pub mod Readings

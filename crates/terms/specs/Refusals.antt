@@ -1,0 +1,91 @@
+-- Document 01, "Numbers of refusal": the table, row by row, and which rows each call asks, in its order.
+use mathlib.Core.Path.{_≡_}
+use mathlib.Core.Logic.{_≢_}
+use mathlib.Core.List.{List, [], _∷_, _++_}
+use Prim.Native.Nat.{ℕ, _<_}
+use lib.ListN.{length}
+use Rattle.terms.specs.Rows.{Row, row}
+use Rattle.terms.specs.Graphs.{Among, IsSubtask, timeOf, fromOf, toOf, Precedes, LeadsTo}
+use Rattle.terms.specs.Plans.{processorOf, startOf, endOf, RunsAt, IdleAt}
+use Rattle.terms.specs.ListRule.{IsOrder}
+use Rattle.terms.specs.declared.Entry.{Entry}
+
+-- some subtask is so
+pub record SomeSubtask (times : List ℕ) (IsSo : ℕ → Type 0) : Type 0 where
+  pub subtask : ℕ
+  pub isSubtask : IsSubtask times subtask
+  pub isSo : IsSo subtask
+
+-- some arrow, by its place in the row, is so
+pub record SomeArrow (arrows : List (List ℕ)) (IsSo : ℕ → Type 0) : Type 0 where
+  pub place : ℕ
+  pub inside : place < length arrows
+  pub isSo : IsSo place
+
+-- the arrow at a place names a subtask outside 1..n
+abbrev pub NamesOutside : List ℕ → List (List ℕ) → ℕ → Type 0
+NamesOutside times arrows a = ¬ (IsSubtask times (fromOf arrows a) × IsSubtask times (toOf arrows a))
+
+-- the arrow at place b is the same as one before it
+pub record Repeats (arrows : List (List ℕ)) (b : ℕ) : Type 0 where
+  pub earlier : ℕ
+  pub before : earlier < b
+  pub sameFrom : fromOf arrows earlier ≡ fromOf arrows b
+  pub sameTo : toOf arrows earlier ≡ toOf arrows b
+
+-- subtask j starts before a predecessor ends
+pub record StartsEarly (times : List ℕ) (arrows : List (List ℕ)) (plan : List Entry) (j : ℕ) : Type 0 where
+  pub predecessor : ℕ
+  pub precedes : Precedes arrows predecessor j
+  pub early : startOf plan j < endOf times plan predecessor
+
+-- two subtasks on one processor share an instant
+pub record Share (times : List ℕ) (plan : List Entry) (i j : ℕ) : Type 0 where
+  pub two : i ≢ j
+  pub sameProcessor : processorOf plan i ≡ processorOf plan j
+  pub instant : ℕ
+  pub runs : RunsAt times plan i instant
+  pub runsToo : RunsAt times plan j instant
+
+-- 2 to 7, which the reader asks too
+unfoldable pub timeAndArrowRows : List ℕ → List (List ℕ) → List Row
+timeAndArrowRows times arrows =
+    row 2 (SomeSubtask times (λ j. timeOf times j ≡ 0))
+    ∷ row 3 (2048 < length arrows)
+    ∷ row 4 (SomeArrow arrows (NamesOutside times arrows))
+    ∷ row 5 (SomeArrow arrows (λ a. fromOf arrows a ≡ toOf arrows a))
+    ∷ row 6 (SomeArrow arrows (Repeats arrows))
+    ∷ row 7 ((j : ℕ) × LeadsTo arrows j j)
+    ∷ []
+
+-- 1 to 7, which all but the reader ask first
+unfoldable pub graphRows : List ℕ → List (List ℕ) → List Row
+graphRows times arrows = row 1 (¬ Among 1 256 (length times)) ∷ timeAndArrowRows times arrows
+
+-- 8, where M is asked
+abbrev pub processorsRow : ℕ → Row
+processorsRow M = row 8 (¬ Among 1 16 M)
+
+-- the verdict: 1 to 9
+unfoldable pub verdictRows : List ℕ → List (List ℕ) → ℕ → ℕ → List Row
+verdictRows times arrows M D = graphRows times arrows ++ processorsRow M ∷ row 9 (¬ Among 1 1000000 D) ∷ []
+
+-- the list plan, over a lent row of so many entries: 1 to 8, 10, 11
+unfoldable pub listRows : List ℕ → List (List ℕ) → ℕ → List ℕ → ℕ → List Row
+listRows times arrows M order room =
+    graphRows times arrows ++ processorsRow M ∷ row 10 (¬ IsOrder times order) ∷ row 11 (room < length times) ∷ []
+
+-- what is asked of a plan itself: 12 to 17
+unfoldable pub planRows : List ℕ → List (List ℕ) → ℕ → List Entry → List Row
+planRows times arrows M plan =
+    row 12 (length plan ≢ length times)
+    ∷ row 13 (SomeSubtask times (λ j. ¬ Among 1 M (processorOf plan j)))
+    ∷ row 14 (SomeSubtask times (λ j. 16776960 < startOf plan j))
+    ∷ row 15 (SomeSubtask times (StartsEarly times arrows plan))
+    ∷ row 16 (SomeSubtask times (λ i. SomeSubtask times (Share times plan i)))
+    ∷ row 17 ((t : ℕ) × IdleAt times arrows M plan t)
+    ∷ []
+
+-- the plan check: 1 to 8 and 12 to 17
+unfoldable pub checkRows : List ℕ → List (List ℕ) → ℕ → List Entry → List Row
+checkRows times arrows M plan = graphRows times arrows ++ processorsRow M ∷ planRows times arrows M plan

@@ -1,0 +1,36 @@
+-- counting and searching
+pub mod Sums
+pub mod Search
+pub mod Pigeonhole
+-- the table
+pub mod Answers
+pub mod Accepted
+pub mod ReadSizes
+-- graphs
+pub mod Work
+pub mod Paths
+pub mod Cycles
+pub mod Longest
+pub mod FinishTimes
+-- plans
+pub mod Ends
+pub mod Running
+pub mod NoGap
+pub mod Instants
+pub mod PlanTests
+pub mod Bounds
+pub mod Graham
+-- the list rule
+pub mod Placing
+pub mod ListRule
+pub mod OneList
+pub mod ListExists
+pub mod Clock
+pub mod ListPlans
+-- what a reader wants
+pub mod OneReply
+pub mod Alterations
+pub mod Dropping
+pub mod DemandThree
+pub mod Pairs
+pub mod Dummies
