@@ -1,0 +1,15 @@
+-- What is read from a table after a store. Assumes nothing.
+use mathlib.Core.Path.{_≡_, sym, ap, _∙_, subst}
+use mathlib.Core.List.{List}
+use Prim.Native.Nat.{ℕ, _<_}
+use native.Mathlib.Decide.{ℕ-discrete}
+use lib.ListN.{length, getD, set}
+use lib.Seq.{getD-set-same, getD-set-other}
+
+-- by whether the place is the one stored at
+pub read-set : (P : ℕ → Type 0) (l : List ℕ) (i a x : ℕ) → i < length l → (x ≡ i → P a) → (¬ (x ≡ i) → P (getD l x 0)) → P (getD (set l i a) x 0)
+read-set P l i a x h here there = go (ℕ-discrete x i)
+  where
+    go : Dec (x ≡ i) → P (getD (set l i a) x 0)
+    go (yes e) = subst P (sym (ap (λ (y : ℕ). getD (set l i a) y 0) e ∙ getD-set-same l i a 0 h)) (here e)
+    go (no n) = subst P (sym (getD-set-other l i x a 0 n)) (there n)

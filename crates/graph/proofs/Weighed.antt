@@ -1,0 +1,192 @@
+-- The weights of the paths, found in an order with predecessors first, give the longest path. Assumes nothing.
+use mathlib.Core.Path.{_≡_, refl, sym, ap, _∙_}
+use mathlib.Core.Logic.{inl, inr, ⊎-elim}
+use mathlib.Core.List.{List}
+use Prim.Native.Nat.{ℕ, _+_, _-_, _*_, _≤_, _<_}
+use native.Mathlib.Omega.{arith}
+use native.Mathlib.Decide.{ℕ-discrete}
+use lib.ListN.{length, getD, set, replicate, length-set, length-replicate, getD-replicate}
+use lib.Seq.{getD-set-same, getD-set-other}
+use borrow.Author.Count.{below-more}
+use Rattle.terms.specs.Graphs.{Among, IsSubtask, timeOf, fromOf, toOf, Precedes}
+use Rattle.terms.specs.Paths.{PathTo, alone, along, weight, IsLongest}
+use Rattle.graph.specs.Chains.{Tidy, Last, Larger}
+use Rattle.graph.specs.Ordered.{Ordered}
+use Rattle.graph.specs.Latest.{Latest}
+use Rattle.graph.proofs.Stores.{read-set}
+use Rattle.graph.proofs.Chained.{Side, passed, level, ahead, side, from-small}
+
+-- ---- along the chain of arrows into v: those from place c on are looked at
+pub record LookedAt (arrows : List (List ℕ)) (finish : List ℕ) (v c most : ℕ) : Type 0 where
+  pub cap : c ≤ length arrows
+  pub cursor : 0 < c → toOf arrows (c - 1) ≡ v
+  pub latest : Latest arrows finish v c most
+
+pub looked-start : (arrows : List (List ℕ)) (finish : List ℕ) (v x : ℕ) → Last arrows v (length arrows) x → LookedAt arrows finish v x 0
+looked-start arrows finish v x last = record {
+  cap = last .within;
+  cursor = last .here;
+  latest = record { most = λ k a l e. absurd (last .gap k a l e); reached = inl refl };
+}
+
+module _ (n : ℕ) (arrows : List (List ℕ)) (tidy : Tidy n arrows) (finish : List ℕ) (v c most p : ℕ) (r : LookedAt arrows finish v c most) (nz : ¬ (c ≡ 0)) (ep : p ≡ fromOf arrows (c - 1)) where
+  pub look-at : c - 1 < length arrows
+  look-at = omega (arith, r .cap, nz)
+
+  to-v : toOf arrows (c - 1) ≡ v
+  to-v = r .cursor (omega (arith, nz))
+
+  pub looked-more : (g x : ℕ) → Larger most (getD finish p 0) g → Last arrows (toOf arrows (c - 1)) (c - 1) x → LookedAt arrows finish v x g
+  looked-more g x big last = record {
+    cap = omega (arith, last .within, r .cap);
+    cursor = λ b. last .here b ∙ to-v;
+    latest = record {
+      most = most';
+      reached = ⊎-elim
+          (λ e. ⊎-elim (λ z. inl (e ∙ z)) (λ w. inr (w .0, w .1, e ∙ w .2)) (r .latest .reached))
+          (λ e. inr (p, record { place = c - 1; inside = look-at; begins = sym ep; arrives = to-v }, e))
+          (big .one);
+    };
+  }
+    where
+      most' : (k : ℕ) → x ≤ k → k < length arrows → toOf arrows k ≡ v → getD finish (fromOf arrows k) 0 ≤ g
+      most' k a l e = go (side c k)
+        where
+          go : Side c k → getD finish (fromOf arrows k) 0 ≤ g
+          go (passed b) = omega (arith, r .latest .most k b l e, big .left)
+          go (level q) = omega (arith, big .right, ap (λ (y : ℕ). getD finish y 0) (ap (λ (y : ℕ). fromOf arrows y) q ∙ sym ep))
+          go (ahead b) = absurd (last .gap k a b (e ∙ sym to-v))
+
+module _ (times : List ℕ) (arrows : List (List ℕ)) (row : List ℕ) where
+  -- the first j entries have the largest weight of a path that ends there
+  pub record Weighed (finish : List ℕ) (most j : ℕ) : Type 0 where
+    pub long : length finish ≡ 257
+    pub upto : j ≤ length times
+    pub small : (x : ℕ) → x < 257 → getD finish x 0 ≤ 65535 * j
+    pub path : (i : ℕ) → i < j → (path : PathTo times arrows (getD row i 0)) × (weight path ≡ getD finish (getD row i 0) 0)
+    pub own : (i : ℕ) → i < j → timeOf times (getD row i 0) ≤ getD finish (getD row i 0) 0
+    pub past : (i : ℕ) → i < j → (k : ℕ) → k < length arrows → toOf arrows k ≡ getD row i 0
+        → getD finish (fromOf arrows k) 0 + timeOf times (getD row i 0) ≤ getD finish (getD row i 0) 0
+    pub over : (i : ℕ) → i < j → getD finish (getD row i 0) 0 ≤ most
+    pub reached : 0 < j → (i : ℕ) × (i < j) × (most ≡ getD finish (getD row i 0) 0)
+    pub begins : j ≡ 0 → most ≡ 0
+
+  pub weighed-start : Weighed (replicate 257 0) 0 0
+  weighed-start = record {
+    long = length-replicate {A = ℕ} 257 0;
+    upto = omega arith;
+    small = λ x l. omega (arith, getD-replicate {A = ℕ} 257 x 0 0 l);
+    path = λ i l. absurd (omega (arith, l));
+    own = λ i l. absurd (omega (arith, l));
+    past = λ i l. absurd (omega (arith, l));
+    over = λ i l. absurd (omega (arith, l));
+    reached = λ l. absurd (omega (arith, l));
+    begins = λ _. refl;
+  }
+
+  module _ (tidy : Tidy (length times) arrows) (order : Ordered (length times) arrows row) where
+    -- the next entry, v
+    module _ (finish : List ℕ) (most j : ℕ) (w : Weighed finish most j) (l : j < length times) (v : ℕ) (ev : v ≡ getD row j 0) where
+      pub entry-is : Among 1 (length times) v
+      entry-is = rw ev (order .inside j l)
+
+      pub entry-small : (1 ≤ v) × (v < 257) × (j < 256)
+      entry-small = (entry-is .low, omega (arith, entry-is .high, tidy .subtasks), omega (arith, l, tidy .subtasks))
+
+      module _ (before time : ℕ) (latest : Latest arrows finish v 0 before) (et : time ≡ timeOf times v) (short : time < 65536) where
+        before-small : before ≤ 65535 * j
+        before-small = ⊎-elim (λ e. omega (arith, e)) (λ r. omega (arith, r .2, w .small (r .0) (from-small tidy (r .1 .place) (r .0) (r .1 .inside) (sym (r .1 .begins))))) (latest .reached)
+
+        pub sum-fits : before + time < 4294967296
+        sum-fits = omega (arith, before-small, short, l, tidy .subtasks)
+
+        pub weighed-more : (most' : ℕ) → Larger most (before + time) most' → Weighed (set finish v (before + time)) most' (j + 1)
+        unfolding weight
+        weighed-more most' big = record {
+          long = length-set finish v (before + time) ∙ w .long;
+          upto = omega (arith, l);
+          small = λ x b. read-set (λ y. y ≤ 65535 * (j + 1)) finish v (before + time) x lv (λ _. omega (arith, before-small, short)) (λ _. omega (arith, w .small x b));
+          path = below-more (λ i. (path : PathTo times arrows (getD row i 0)) × (weight path ≡ getD finish' (getD row i 0) 0)) j
+              (λ i b. let p = w .path i b in (p .0, p .1 ∙ sym (kept i b)))
+              (rw (← ev) new-path);
+          own = below-more (λ i. timeOf times (getD row i 0) ≤ getD finish' (getD row i 0) 0) j
+              (λ i b. omega (arith, w .own i b, kept i b))
+              (rw (← ev) (omega (arith, is-new, et)));
+          past = below-more (λ i. (k : ℕ) → k < length arrows → toOf arrows k ≡ getD row i 0 → getD finish' (fromOf arrows k) 0 + timeOf times (getD row i 0) ≤ getD finish' (getD row i 0) 0) j
+              (λ i b k lk e. let s = order .first k lk i (omega (arith, b, l)) (sym e) in
+              omega (arith, w .past i b k lk e, kept i b, kept-at (fromOf arrows k) (s .place) (omega (arith, s .below, b)) (s .is)))
+              (rw (← ev) (λ k lk e. let s = order .first k lk j l (sym ev ∙ sym e) in
+              omega (arith, latest .most k (omega arith) lk e, kept-at (fromOf arrows k) (s .place) (s .below) (s .is), is-new, et)));
+          over = below-more (λ i. getD finish' (getD row i 0) 0 ≤ most') j
+              (λ i b. omega (arith, w .over i b, kept i b, big .left))
+              (rw (← ev) (omega (arith, is-new, big .right)));
+          reached = λ _. ⊎-elim reached-old (λ e. (j, omega arith, e ∙ sym is-new ∙ ap (λ (y : ℕ). getD finish' y 0) ev)) (big .one);
+          begins = λ e. absurd (omega (arith, e));
+        }
+          where
+            finish' : List ℕ
+            finish' = set finish v (before + time)
+
+            lv : v < length finish
+            lv = omega (arith, entry-small, w .long)
+
+            is-new : getD finish' v 0 ≡ before + time
+            is-new = getD-set-same finish v (before + time) 0 lv
+
+            -- an earlier entry is not v
+            kept-at : (x i : ℕ) → i < j → getD row i 0 ≡ x → getD finish' x 0 ≡ getD finish x 0
+            kept-at x i b e = getD-set-other finish v x (before + time) 0 (λ q. order .once i j b l (e ∙ q ∙ ev))
+
+            kept : (i : ℕ) → i < j → getD finish' (getD row i 0) 0 ≡ getD finish (getD row i 0) 0
+            kept i b = kept-at (getD row i 0) i b refl
+
+            new-path : (path : PathTo times arrows v) × (weight path ≡ getD finish' v 0)
+            new-path = ⊎-elim
+                (λ e. (alone v entry-is, omega (arith, e, et, is-new)))
+                (λ r. onward (r .0) (r .1) (r .2))
+                (latest .reached)
+              where
+                onward : (p : ℕ) → Precedes arrows p v → before ≡ getD finish p 0 → (path : PathTo times arrows v) × (weight path ≡ getD finish' v 0)
+                onward p a e =
+                    let s = order .first (a .place) (a .inside) j l (sym ev ∙ sym (a .arrives)) in
+                    let q = w .path (s .place) (s .below) in
+                    let is-p : getD row (s .place) 0 ≡ p = s .is ∙ a .begins in
+                    let path : (path : PathTo times arrows p) × (weight path ≡ getD finish p 0) = rw is-p at q in
+                    (along (path .0) v a, omega (arith, path .1, e, et, is-new))
+
+            reached-old : most' ≡ most → (i : ℕ) × (i < j + 1) × (most' ≡ getD finish' (getD row i 0) 0)
+            reached-old e = go (ℕ-discrete j 0)
+              where
+                go : Dec (j ≡ 0) → (i : ℕ) × (i < j + 1) × (most' ≡ getD finish' (getD row i 0) 0)
+                go (yes z) = (j, omega arith, last z)
+                  where
+                    last : j ≡ 0 → most' ≡ getD finish' (getD row j 0) 0
+                    last z =
+                        let f : most' ≡ before + time = omega (arith, e, w .begins z, big .right) in
+                        f ∙ sym is-new ∙ ap (λ (y : ℕ). getD finish' y 0) ev
+                go (no z) = let r = w .reached (omega (arith, z)) in (r .0, omega (arith, r .1), e ∙ r .2 ∙ sym (kept (r .0) (r .1)))
+
+    -- all entries are weighed
+    pub weighed-end : (finish : List ℕ) (most : ℕ) → 1 ≤ length times → Weighed finish most (length times) → IsLongest times arrows most
+    unfolding weight
+    weighed-end finish most some w = record {
+      reached = (let r = w .reached (omega (arith, some)) in let p = w .path (r .0) (r .1) in (getD row (r .0) 0, p .0, p .1 ∙ sym (r .2)));
+      most = λ j path. omega (arith, bounded path, at j (end-of path) .1);
+    }
+      where
+        -- subtask j has an entry
+        at : (j : ℕ) → IsSubtask times j → (timeOf times j ≤ getD finish j 0) × (getD finish j 0 ≤ most)
+            × ((k : ℕ) → k < length arrows → toOf arrows k ≡ j → getD finish (fromOf arrows k) 0 + timeOf times j ≤ getD finish j 0)
+        at j t =
+            let s = order .each j t in
+            (rw (s .is) at (w .own (s .place) (s .below)), rw (s .is) at (w .over (s .place) (s .below)), rw (s .is) at (w .past (s .place) (s .below)))
+
+        end-of : {j : ℕ} → PathTo times arrows j → IsSubtask times j
+        end-of (alone j s) = s
+        end-of (along path j a) = rw (a .arrives) at (tidy .to-in (a .place) (a .inside))
+
+        bounded : {j : ℕ} (path : PathTo times arrows j) → weight path ≤ getD finish j 0
+        bounded (alone j s) = at j s .0
+        bounded (along path j a) =
+            let t : IsSubtask times j = rw (a .arrives) at (tidy .to-in (a .place) (a .inside)) in
+            omega (arith, bounded path, at j t .2 (a .place) (a .inside) (a .arrives), ap (λ (y : ℕ). getD finish y 0) (a .begins))

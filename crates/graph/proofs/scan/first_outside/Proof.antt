@@ -1,0 +1,89 @@
+-- `first_outside`: the scan answers the first arrow that names a subtask outside 1..n. Assumes nothing.
+use Prim.Native.Nat.{_-_, _≤_}
+use native.Mathlib.Omega.{arith}
+use lib.ListN.{length}
+use borrow.Author.Needs.{needs}
+use borrow.Author.Count.{below-more}
+use Rattle.graph.specs.First.{Outside}
+use Rattle.graph.proofs.Firsts.{Clear, first-here, first-none, within, from-out, to-out}
+use Rattle.graph.proofs.scan.first_outside.Statement.{statement}
+use Rattle.graph.proofs.scan.first_outside.Tie as tie
+
+abbrev Inv-loop : tie.InvT-loop
+Inv-loop n arrows i₀ i = (i ≤ length arrows) × Clear (Outside n arrows) i
+
+abbrev μ-loop : tie.MeasureT-loop
+μ-loop n arrows i₀ i = length arrows - i
+
+loop-holds : tie.Need-loop-holds Inv-loop μ-loop
+loop-holds c = search needs
+
+from-at-requires : tie.Need-from-at-requires Inv-loop μ-loop
+from-at-requires c κs = search needs
+
+to-at-requires : tie.Need-to-at-requires Inv-loop μ-loop
+to-at-requires c κs = search needs
+
+add-i : tie.Need-add-i Inv-loop μ-loop
+add-i c = search needs
+
+returns : tie.Need-returns Inv-loop μ-loop
+returns c =
+    let c-loop-test = c .before .before .before .loop-test in
+    let c-loop = c .before .before .before .before .loop in
+    let c-from-at = c .before .before .from-at in
+    first-here _ _ _ (c-loop-test .taken) (c-loop .inv .1) (from-out _ _ _ _ (c-from-at .ensures .0) (λ h. omega arith))
+
+returns-2 : tie.Need-returns-2 Inv-loop μ-loop
+returns-2 c =
+    let c-loop-test = c .before .before .before .before .loop-test in
+    let c-loop = c .before .before .before .before .before .loop in
+    let c-from-at = c .before .before .before .from-at in
+    first-here _ _ _ (c-loop-test .taken) (c-loop .inv .1) (from-out _ _ _ _ (c-from-at .ensures .0) (λ h. omega arith))
+
+returns-3 : tie.Need-returns-3 Inv-loop μ-loop
+returns-3 c =
+    let c-loop-test = c .before .before .before .before .before .loop-test in
+    let c-loop = c .before .before .before .before .before .before .loop in
+    let c-to-at = c .before .before .before .to-at in
+    first-here _ _ _ (c-loop-test .taken) (c-loop .inv .1) (to-out _ _ _ _ (c-to-at .ensures .0) (λ h. omega arith))
+
+returns-4 : tie.Need-returns-4 Inv-loop μ-loop
+returns-4 c =
+    let c-loop-test = c .before .before .before .before .before .before .loop-test in
+    let c-loop = c .before .before .before .before .before .before .before .loop in
+    let c-to-at = c .before .before .before .before .to-at in
+    first-here _ _ _ (c-loop-test .taken) (c-loop .inv .1) (to-out _ _ _ _ (c-to-at .ensures .0) (λ h. omega arith))
+
+loop-less : tie.Need-loop-less Inv-loop μ-loop
+loop-less c = search needs
+
+loop-again : tie.Need-loop-again Inv-loop μ-loop
+loop-again c =
+    let c-loop = c .before .before .before .before .before .before .before .loop in
+    let c-from-at = c .before .before .before .before .before .from-at in
+    let c-to-at = c .before .before .before .before .to-at in
+    (omega arith, below-more _ _ (c-loop .inv .1) (within _ _ _ _ _ (c-from-at .ensures .0) (c-to-at .ensures .0) (omega arith) (omega arith) (omega arith) (omega arith)))
+
+returns-5 : tie.Need-returns-5 Inv-loop μ-loop
+returns-5 c =
+    let c-loop = c .before .loop in
+    first-none _ _ _ (c-loop .inv .1) (c .loop-test .left)
+
+pub first-outside-spec : {M : Type 1} → statement M
+first-outside-spec =
+    tie.close
+    (tie.spec
+    Inv-loop
+    μ-loop
+    loop-holds
+    from-at-requires
+    to-at-requires
+    add-i
+    returns
+    returns-2
+    returns-3
+    returns-4
+    loop-less
+    loop-again
+    returns-5)

@@ -1,0 +1,126 @@
+-- `longest`: the answer is the longest path. Assumes nothing.
+use mathlib.Core.Path.{_≡_, refl}
+use Prim.Native.Nat.{_-_}
+use native.Mathlib.Omega.{arith}
+use lib.ListN.{length}
+use borrow.Author.Needs.{needs}
+use denote.Ref.{now}
+use Rattle.graph.proofs.Weighed.{Weighed, weighed-start, entry-is, entry-small, sum-fits, weighed-more, weighed-end}
+use Rattle.graph.proofs.weigh.longest.Statement.{statement}
+use Rattle.graph.proofs.weigh.longest.Tie as tie
+
+abbrev Inv-loop : tie.InvT-loop
+Inv-loop times arrows first next order finish₀ most₀ j₀ finish most j = Weighed times arrows order finish most j
+
+abbrev μ-loop : tie.MeasureT-loop
+μ-loop times arrows first next order finish₀ most₀ j₀ finish most j = length times - j
+
+loop-holds : tie.Need-loop-holds Inv-loop μ-loop
+loop-holds c = weighed-start _ _ _
+
+mul-wide : tie.Need-mul-wide Inv-loop μ-loop
+mul-wide c =
+    let c-pre = c .before .before .before .pre in
+    let c-loop = c .before .loop in
+    omega (arith, entry-small _ _ _ (c-pre .0 .0) (c-pre .1 .1) _ _ _ (c-loop .inv) (c .loop-test .taken) _ refl)
+
+element-copy-out-wide : tie.Need-element-copy-out-wide Inv-loop μ-loop
+element-copy-out-wide c =
+    let c-pre = c .before .before .before .pre in
+    let c-loop = c .before .loop in
+    entry-small _ _ _ (c-pre .0 .0) (c-pre .1 .1) _ _ _ (c-loop .inv) (c .loop-test .taken) _ refl .2
+
+wide-requires : tie.Need-wide-requires Inv-loop μ-loop
+wide-requires c κs = search needs
+
+latest-requires : tie.Need-latest-requires Inv-loop μ-loop
+latest-requires c κs =
+    let c-pre = c .before .before .before .before .before .before .pre in
+    let c-loop = c .before .before .before .before .loop in
+    let c-loop-test = c .before .before .before .loop-test in
+    ((c-pre .0 .0, entry-small _ _ _ (c-pre .0 .0) (c-pre .1 .1) _ _ _ (c-loop .inv) (c-loop-test .taken) _ (c .before .wide .ensures .0) .1), c-pre .1 .0)
+
+time-of-requires : tie.Need-time-of-requires Inv-loop μ-loop
+time-of-requires c κs =
+    let c-pre = c .before .before .before .before .before .before .before .pre in
+    let c-loop = c .before .before .before .before .before .loop in
+    let c-loop-test = c .before .before .before .before .loop-test in
+    let c-wide = c .before .before .wide in
+    entry-is _ _ _ (c-pre .0 .0) (c-pre .1 .1) _ _ _ (c-loop .inv) (c-loop-test .taken) _ (c-wide .ensures .0)
+
+add-f : tie.Need-add-f Inv-loop μ-loop
+add-f c =
+    let c-pre = c .before .before .before .before .before .before .before .before .pre in
+    let c-loop = c .before .before .before .before .before .before .loop in
+    let c-loop-test = c .before .before .before .before .before .loop-test in
+    let c-wide = c .before .before .before .wide in
+    let c-time-of = c .time-of in
+    omega (arith, sum-fits _ _ _ (c-pre .0 .0) (c-pre .1 .1) _ _ _ (c-loop .inv) (c-loop-test .taken) _ (c-wide .ensures .0) _ _ (c .before .latest .ensures) (c-time-of .ensures .0) (c-time-of .ensures .1))
+
+mul-finish : tie.Need-mul-finish Inv-loop μ-loop
+mul-finish c =
+    let c-pre = c .before .before .before .before .before .before .before .before .pre in
+    let c-loop = c .before .before .before .before .before .before .loop in
+    let c-loop-test = c .before .before .before .before .before .loop-test in
+    let c-wide = c .before .before .before .wide in
+    omega (arith, entry-small _ _ _ (c-pre .0 .0) (c-pre .1 .1) _ _ _ (c-loop .inv) (c-loop-test .taken) _ (c-wide .ensures .0))
+
+array-write-finish : tie.Need-array-write-finish Inv-loop μ-loop
+array-write-finish c =
+    let c-pre = c .before .before .before .before .before .before .before .before .pre in
+    let c-loop = c .before .before .before .before .before .before .loop in
+    let c-loop-test = c .before .before .before .before .before .loop-test in
+    let c-wide = c .before .before .before .wide in
+    entry-small _ _ _ (c-pre .0 .0) (c-pre .1 .1) _ _ _ (c-loop .inv) (c-loop-test .taken) _ (c-wide .ensures .0) .1
+
+larger-requires : tie.Need-larger-requires Inv-loop μ-loop
+larger-requires c κs = search needs
+
+add-j : tie.Need-add-j Inv-loop μ-loop
+add-j c =
+    let c-pre = c .before .before .before .before .before .before .before .before .before .pre in
+    let c-loop = c .before .before .before .before .before .before .before .loop in
+    let c-loop-test = c .before .before .before .before .before .before .loop-test in
+    let c-wide = c .before .before .before .before .wide in
+    omega (arith, entry-small _ _ _ (c-pre .0 .0) (c-pre .1 .1) _ _ _ (c-loop .inv) (c-loop-test .taken) _ (c-wide .ensures .0))
+
+loop-less : tie.Need-loop-less Inv-loop μ-loop
+loop-less c = omega arith
+
+loop-again : tie.Need-loop-again Inv-loop μ-loop
+loop-again c =
+    let c-pre = c .before .before .before .before .before .before .before .before .before .pre in
+    let c-loop = c .before .before .before .before .before .before .before .loop in
+    let c-loop-test = c .before .before .before .before .before .before .loop-test in
+    let c-wide = c .before .before .before .before .wide in
+    let c-latest = c .before .before .latest in
+    let c-time-of = c .before .time-of in
+    weighed-more _ _ _ (c-pre .0 .0) (c-pre .1 .1) _ _ _ (c-loop .inv) (c-loop-test .taken) _ (c-wide .ensures .0) _ _ (c-latest .ensures) (c-time-of .ensures .0) (c-time-of .ensures .1) _ (c .larger .ensures)
+
+returns : tie.Need-returns Inv-loop μ-loop
+returns c =
+    let c-loop = c .before .loop in
+    let c-args = c .before .before .before .args in
+    let c-pre = c .before .before .before .pre in
+    let e : c-loop .j ≡ length (now (c-args .times)) = omega (arith, c-loop .inv .upto) in let w : Weighed (now (c-args .times)) (now (c-args .arrows)) (now (c-args .order)) (c-loop .finish) (c-loop .most) (length (now (c-args .times))) = rw e at (c-loop .inv) in weighed-end _ _ _ (c-pre .0 .0) (c-pre .1 .1) _ _ (c-pre .0 .1) w
+
+pub longest-spec : {M : Type 1} → statement M
+longest-spec =
+    tie.close
+    (tie.spec
+    Inv-loop
+    μ-loop
+    loop-holds
+    mul-wide
+    element-copy-out-wide
+    wide-requires
+    latest-requires
+    time-of-requires
+    add-f
+    mul-finish
+    array-write-finish
+    larger-requires
+    add-j
+    loop-less
+    loop-again
+    returns)

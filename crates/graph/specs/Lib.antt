@@ -1,0 +1,4 @@
+pub mod First
+pub mod Chains
+pub mod Ordered
+pub mod Latest

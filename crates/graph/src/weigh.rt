@@ -1,0 +1,82 @@
+// C and P.
+use crate::read::from_at;
+use crate::read::long;
+use crate::read::time_of;
+use crate::read::wide;
+ghost use mathlib.Core.Path.{_≡_};
+ghost use Prim.Native.Nat.{_+_, _-_, _≤_, _<_};
+ghost use lib.ListN.{length};
+ghost use Rattle.terms.specs.Paths.{totalWork, IsLongest};
+ghost use Rattle.graph.specs.Chains.{Chains, Tidy, Larger};
+ghost use Rattle.graph.specs.Ordered.{Ordered};
+ghost use Rattle.graph.specs.Latest.{Latest};
+
+// C: the sum of all times.
+pub fn total(times: &[u16]) -> u32
+    requires { ⌜ length (now times) ≤ 256 ⌝ }
+    ensures { λ r. ⌜ r ≡ totalWork (now (times .entry)) ⌝ }
+{
+    let mut sum: u32 = 0;
+    let mut i: usize = 0;
+    while i < times.len() {
+        sum += long(times[i]);
+        i += 1;
+    }
+    sum
+}
+
+fn larger(a: u32, b: u32) -> u32
+    ensures { λ r. ⌜ Larger a b r ⌝ }
+{
+    if a < b { b } else { a }
+}
+
+// The largest finish of the subtasks from which an arrow of the chain goes to v, 0 for none.
+fn latest(
+    n: usize,
+    v: usize,
+    arrows: &[[u16; 2]],
+    first: &[u16; 257],
+    next: &[u16; 2048],
+    finish: &[u32; 257],
+) -> u32
+    requires { ⌜ Tidy n (now arrows) × (v < 257) ⌝ }
+    requires { ⌜ Chains (now arrows) (now first) (now next) (length (now arrows)) ⌝ }
+    ensures { λ r. ⌜ Latest (now (arrows .entry)) (now (finish .entry)) v 0 r ⌝ }
+{
+    let mut most: u32 = 0;
+    let mut c = wide(first[v]);
+    while c != 0 {
+        let p = from_at(arrows, c - 1);
+        most = larger(most, finish[p]);
+        c = wide(next[c - 1]);
+    }
+    most
+}
+
+// P: in an order with predecessors first, the largest weight of a path that ends in each subtask; the largest of all.
+pub fn longest(
+    times: &[u16],
+    arrows: &[[u16; 2]],
+    first: &[u16; 257],
+    next: &[u16; 2048],
+    order: &[u16; 256],
+) -> u32
+    requires { ⌜ Tidy (length (now times)) (now arrows) × (1 ≤ length (now times)) ⌝ }
+    requires { ⌜ Chains (now arrows) (now first) (now next) (length (now arrows)) ⌝ }
+    requires { ⌜ Ordered (length (now times)) (now arrows) (now order) ⌝ }
+    ensures { λ r. ⌜ IsLongest (now (times .entry)) (now (arrows .entry)) r ⌝ }
+{
+    let mut finish = [0u32; 257];
+    let mut most: u32 = 0;
+    let mut j: usize = 0;
+    while j < times.len() {
+        let v = wide(order[j]);
+        let before = latest(times.len(), v, arrows, first, next, &finish);
+        let f = before + time_of(times, v);
+        finish[v] = f;
+        most = larger(most, f);
+        j += 1;
+    }
+    most
+}
