@@ -1,0 +1,116 @@
+-- The scans over the processors and over the places of the order, turn by turn. Assumes nothing.
+use mathlib.Core.Path.{_≡_, refl, sym, _∙_}
+use mathlib.Core.Logic.{_≢_, by-cases}
+use mathlib.Core.List.{List}
+use Prim.Native.Nat.{ℕ, _+_, _*_, _/_, _≤_, _<_, min}
+use native.Mathlib.Omega.{arith}
+use native.Mathlib.Decide.{decLe, ℕ-discrete}
+use lib.ListN.{length, getD, set, length-set}
+use Rattle.graph.proofs.Stores.{read-set}
+use Rattle.listplan.specs.Tables.{Grouped}
+use Rattle.listplan.specs.Making.{never, NoneMarked, FirstMarked, AllBusy, FirstFree, Soonest, NoneDue, FirstDue}
+
+-- ---- the places of the order
+
+-- none of the first x is marked; x may have passed n
+pub record Passed (R : List ℕ) (x : ℕ) : Type 0 where
+  pub none : (y : ℕ) → y < x → y < 256 → getD R y 0 ≢ 1
+
+pub passed-none : (R : List ℕ) → Passed R 0
+passed-none R = record { none = λ y l. absurd (omega arith) }
+
+pub passed-more : {R : List ℕ} {x : ℕ} → Passed R x → getD R x 0 ≢ 1 → Passed R (x + 1)
+passed-more {R} {x} h d = record { none = λ y l m. by-cases (ℕ-discrete y x) (λ e. rw e d) (λ e. h .none y (omega arith) m) }
+
+pub passed-group : {R G : List ℕ} {x : ℕ} → Grouped R G → Passed R x → getD G (x / 16) 0 ≡ 0 → Passed R (x / 16 * 16 + 16)
+passed-group {R} {G} {x} g h z = record {
+  none = λ y l m. by-cases (decLe x y)
+      (λ b. let e : y / 16 ≡ x / 16 = omega arith in g .none y m (rw e z))
+      (λ b. h .none y (omega arith) m);
+}
+
+pub first-marked-here : {R : List ℕ} {n x : ℕ} → n ≤ 256 → x < n → Passed R x → getD R x 0 ≡ 1 → FirstMarked R n x
+first-marked-here b l h e = record { before = record { within = omega arith; none = λ y m. h .none y m (omega arith) }; here = λ _. e }
+
+pub first-marked-none : {R : List ℕ} {n x : ℕ} → n ≤ 256 → n ≤ x → Passed R x → FirstMarked R n n
+first-marked-none b l h = record { before = record { within = omega arith; none = λ y m. h .none y (omega arith) (omega arith) }; here = λ m. absurd (omega arith) }
+
+-- a mark was taken off place x; up to y of its group there is no other after it
+pub record Unmarking (R : List ℕ) (x y : ℕ) : Type 0 where
+  pub low : x < y
+  pub high : y ≤ x / 16 * 16 + 16
+  pub none : (z : ℕ) → x < z → z < y → getD R z 0 ≢ 1
+
+pub unmarking-none : (R : List ℕ) (x : ℕ) → Unmarking R x (x + 1)
+unmarking-none R x = record { low = omega arith; high = omega arith; none = λ z a b. absurd (omega arith) }
+
+pub unmarking-more : {R : List ℕ} {x y : ℕ} → Unmarking R x y → y < x / 16 * 16 + 16 → getD R y 0 ≢ 1 → Unmarking R x (y + 1)
+unmarking-more {R} {x} {y} u m d = record {
+  low = omega (arith, u .low);
+  high = omega arith;
+  none = λ z a b. by-cases (ℕ-discrete z y) (λ q. rw q d) (λ q. u .none z a (omega arith));
+}
+
+module _ (R G : List ℕ) (x : ℕ) (l : x < 256) (e : length R ≡ 256) (g : Grouped R G) where
+  room : x < length R
+  room = omega arith
+
+  -- no mark is new
+  fewer : (z : ℕ) → getD R z 0 ≢ 1 → getD (set R x 0) z 0 ≢ 1
+  fewer z h = read-set (λ k. k ≢ 1) R x 0 z room (λ _ f. omega arith) (λ _. h)
+
+  -- the group may have another
+  pub unmarked-more : Grouped (set R x 0) G
+  unmarked-more = record { long = g .long; none = λ z m q. fewer z (g .none z m q) }
+
+  -- it has none
+  pub unmarked-last : (y : ℕ) → NoneMarked R 256 x → Unmarking (set R x 0) x y → x / 16 * 16 + 16 ≤ y → Grouped (set R x 0) (set G (x / 16) 0)
+  unmarked-last y before u m = record {
+    long = length-set G (x / 16) 0 ∙ g .long;
+    none = λ z b. read-set (λ k. k ≡ 0 → getD (set R x 0) z 0 ≢ 1) G (x / 16) 0 (z / 16) (omega (arith, g .long))
+        (λ q _. inside z q)
+        (λ q f. fewer z (g .none z b f));
+  }
+    where
+      inside : (z : ℕ) → z / 16 ≡ x / 16 → getD (set R x 0) z 0 ≢ 1
+      inside z q = by-cases (decLe (x + 1) z)
+          (λ a. u .none z (omega arith) (omega arith))
+          (λ a. read-set (λ k. k ≢ 1) R x 0 z room (λ _ f. omega arith) (λ d. before .none z (omega arith)))
+
+-- ---- the processors
+
+pub all-busy-more : {W : List ℕ} {M q : ℕ} → AllBusy W M q → q < M → getD W q 0 ≢ 0 → AllBusy W M (q + 1)
+all-busy-more {W} {M} {q} h l d = record {
+  within = omega arith;
+  busy = λ k m. by-cases (ℕ-discrete k q) (λ e. rw e (omega arith)) (λ e. h .busy k (omega arith));
+}
+
+pub first-free-here : {W : List ℕ} {M q : ℕ} → AllBusy W M q → getD W q 0 ≡ 0 → FirstFree W M q
+first-free-here h e = record { before = h; here = λ _. e }
+
+pub first-free-none : {W : List ℕ} {M q : ℕ} → AllBusy W M q → M ≤ q → FirstFree W M q
+first-free-none h l = record { before = h; here = λ m. absurd (omega arith) }
+
+-- the soonest of the first k
+pub soonest-none : (U : List ℕ) → Soonest U 0 never
+soonest-none U = record { least = λ k l. absurd (omega arith); reached = λ h. absurd (h refl) }
+
+pub soonest-more : {U : List ℕ} {k e f : ℕ} → Soonest U k e → f ≡ min e (getD U k 0) → Soonest U (k + 1) f
+soonest-more {U} {k} {e} {f} h m = record {
+  least = λ i l. by-cases (ℕ-discrete i k) (λ q. rw q (omega arith)) (λ q. omega (arith, h .least i (omega arith)));
+  reached = λ n. by-cases (decLe e (getD U k 0))
+      (λ l. let same : f ≡ e = omega arith in let r = h .reached (λ q. n (same ∙ q)) in (r .0, omega (arith, r .1), r .2 ∙ sym same))
+      (λ l. (k, omega arith, omega arith));
+}
+
+pub none-due-more : {U : List ℕ} {M t p : ℕ} → NoneDue U M t p → p < M → t < getD U p 0 → NoneDue U M t (p + 1)
+none-due-more {U} {M} {t} {p} h l d = record {
+  within = omega arith;
+  later = λ k m. by-cases (ℕ-discrete k p) (λ e. rw e d) (λ e. h .later k (omega arith));
+}
+
+pub first-due-here : {U : List ℕ} {M t p : ℕ} → NoneDue U M t p → getD U p 0 ≤ t → FirstDue U M t p
+first-due-here h e = record { before = h; here = λ _. e }
+
+pub first-due-none : {U : List ℕ} {M t p : ℕ} → NoneDue U M t p → M ≤ p → FirstDue U M t p
+first-due-none h l = record { before = h; here = λ m. absurd (omega arith) }

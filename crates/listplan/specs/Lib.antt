@@ -1,0 +1,4 @@
+pub mod Flags
+pub mod Tables
+pub mod Making
+pub mod Drafts

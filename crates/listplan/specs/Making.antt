@@ -1,0 +1,135 @@
+-- A list plan in the making, as its tables have it: P and S hold the processor and start of each subtask, U and W the end and the number of
+-- the subtask on each processor, L how many arrows hold each subtask back, R a mark for each place of the order whose subtask can go.
+use mathlib.Core.Path.{_≡_}
+use mathlib.Core.Logic.{_≢_}
+use mathlib.Core.List.{List}
+use Prim.Native.Nat.{ℕ, _+_, _-_, _≤_, _<_}
+use lib.ListN.{length, getD, set}
+use Rattle.terms.specs.Graphs.{Among, IsSubtask, fromOf, toOf}
+use Rattle.terms.specs.Paths.{totalWork}
+use Rattle.terms.specs.ListRule.{IsOrder, ByRule}
+use Rattle.theory.specs.Sound.{SoundGraph}
+use Rattle.entries.specs.Entries.{entries, itemOf, finishOf}
+use Rattle.listplan.specs.Tables.{Count, Chains, Ranks, Grouped, MarkedIf}
+
+-- the end of a processor that nobody is on
+abbrev pub never : ℕ
+never = 4294967295
+
+-- what stays the same
+pub record Job (times : List ℕ) (arrows : List (List ℕ)) (order : List ℕ) (M : ℕ) (first next rank : List ℕ) : Type 0 where
+  pub graph : SoundGraph times arrows
+  pub processors : Among 1 16 M
+  pub isOrder : IsOrder times order
+  pub work : totalWork times ≤ 16776960
+  pub chains : Chains arrows first next (length arrows)
+  pub ranks : Ranks order rank (length order)
+
+-- subtask j has not gone, or is still on its processor
+pub data Unended (P W : List ℕ) (j : ℕ) : Type 0 where
+  waits : itemOf P j ≡ 0 → Unended P W j
+  runs : getD W (itemOf P j - 1) 0 ≡ j → Unended P W j
+
+-- The arrow at place a holds its `to` back: its `from` is unended, or has just ended and its arrows are being counted off; c is the position,
+-- counted from 1, of the next of those, and 0 where there are none left.
+pub data Holding (arrows : List (List ℕ)) (P W : List ℕ) (c a : ℕ) : Type 0 where
+  unended : Unended P W (fromOf arrows a) → Holding arrows P W c a
+  uncounted : a < c → fromOf arrows a ≡ fromOf arrows (c - 1) → Holding arrows P W c a
+
+-- subtask s has not gone and nothing holds it back
+pub record Open (arrows : List (List ℕ)) (P W : List ℕ) (c s : ℕ) : Type 0 where
+  pub unplaced : itemOf P s ≡ 0
+  pub served : (a : ℕ) → a < length arrows → toOf arrows a ≡ s → ¬ Holding arrows P W c a
+
+-- the rows have one place for each subtask
+pub record Sizes (times P S : List ℕ) : Type 0 where
+  pub processors : length P ≡ length times
+  pub starts : length S ≡ length times
+
+-- who is on the processors, and that all others that have gone have ended
+pub record Holders (times : List ℕ) (M t : ℕ) (P S U W : List ℕ) : Type 0 where
+  pub long-until : length U ≡ 16
+  pub long-who : length W ≡ 16
+  pub nobody : (p : ℕ) → p < M → getD W p 0 ≡ 0 → getD U p 0 ≡ never
+  pub holder : (p : ℕ) → p < M → 1 ≤ getD W p 0 → IsSubtask times (getD W p 0) × (itemOf P (getD W p 0) ≡ p + 1) × (finishOf times S (getD W p 0) ≡ getD U p 0)
+  pub ended : (j : ℕ) → IsSubtask times j → ¬ Unended P W j → finishOf times S j ≤ t
+
+-- how many arrows hold each subtask back
+pub record Lefts (times : List ℕ) (arrows : List (List ℕ)) (c : ℕ) (P W L : List ℕ) : Type 0 where
+  pub long : length L ≡ 257
+  pub count : (s : ℕ) → IsSubtask times s → Count (λ a. (toOf arrows a ≡ s) × Holding arrows P W c a) (length arrows) (getD L s 0)
+
+-- the places of the order whose subtask is open
+pub record Marks (arrows : List (List ℕ)) (order : List ℕ) (c : ℕ) (P W R : List ℕ) : Type 0 where
+  pub long : length R ≡ 256
+  pub opens : (x : ℕ) → x < length order → getD R x 0 ≡ 1 → Open arrows P W c (getD order x 0)
+  pub marked : (x : ℕ) → x < length order → Open arrows P W c (getD order x 0) → getD R x 0 ≡ 1
+
+-- the arrows that are being counted off come from a subtask that has ended
+pub record Cursor (arrows : List (List ℕ)) (c : ℕ) (P W : List ℕ) : Type 0 where
+  pub within : c ≤ length arrows
+  pub ended : 0 < c → ¬ Unended P W (fromOf arrows (c - 1))
+
+-- what the rule has made with the clock at t, and the tables say so
+pub record Making (times : List ℕ) (arrows : List (List ℕ)) (order : List ℕ) (M t c : ℕ) (L R U W P S : List ℕ) : Type 0 where
+  pub sizes : Sizes times P S
+  pub early : t ≤ totalWork times
+  pub begun : (j : ℕ) → IsSubtask times j → itemOf S j ≤ t
+  pub made : ByRule times arrows order M t (entries P S)
+  pub holders : Holders times M t P S U W
+  pub lefts : Lefts times arrows c P W L
+  pub marks : Marks arrows order c P W R
+  pub cursor : Cursor arrows c P W
+  pub blocked : (a : ℕ) → a < length arrows → Holding arrows P W c a → itemOf P (toOf arrows a) ≡ 0
+
+-- no place below x is marked
+pub record NoneMarked (R : List ℕ) (n x : ℕ) : Type 0 where
+  pub within : x ≤ n
+  pub none : (y : ℕ) → y < x → getD R y 0 ≢ 1
+
+-- x is the first place that is marked, or n
+pub record FirstMarked (R : List ℕ) (n x : ℕ) : Type 0 where
+  pub before : NoneMarked R n x
+  pub here : x < n → getD R x 0 ≡ 1
+
+-- where a processor is free, x is the first place that is marked; n where there is no such place or no free processor
+pub record ToGo (R : List ℕ) (M q n x : ℕ) : Type 0 where
+  pub first : q < M → FirstMarked R n x
+  pub none : M ≤ q → x ≡ n
+
+-- somebody is on each processor below q, counted from 0
+pub record AllBusy (W : List ℕ) (M q : ℕ) : Type 0 where
+  pub within : q ≤ M
+  pub busy : (k : ℕ) → k < q → 1 ≤ getD W k 0
+
+-- q is the first processor that nobody is on, or M
+pub record FirstFree (W : List ℕ) (M q : ℕ) : Type 0 where
+  pub before : AllBusy W M q
+  pub here : q < M → getD W q 0 ≡ 0
+
+-- e is the soonest end, and `never` where nobody is on a processor
+pub record Soonest (U : List ℕ) (M e : ℕ) : Type 0 where
+  pub least : (k : ℕ) → k < M → e ≤ getD U k 0
+  pub reached : e ≢ never → (k : ℕ) × (k < M) × (getD U k 0 ≡ e)
+
+-- no processor below p has an end by t
+pub record NoneDue (U : List ℕ) (M t p : ℕ) : Type 0 where
+  pub within : p ≤ M
+  pub later : (k : ℕ) → k < p → t < getD U k 0
+
+-- p is the first processor with an end by t, or M
+pub record FirstDue (U : List ℕ) (M t p : ℕ) : Type 0 where
+  pub before : NoneDue U M t p
+  pub here : p < M → getD U p 0 ≤ t
+
+-- what holds at each turn of the loop that makes the plan
+pub record Turn (times : List ℕ) (arrows : List (List ℕ)) (order : List ℕ) (M t c : ℕ) (L R G U W P S : List ℕ) (p q : ℕ) : Type 0 where
+  pub making : Making times arrows order M t c L R U W P S
+  pub grouped : Grouped R G
+  pub due : FirstDue U M t p
+  pub busy : AllBusy W M q
+
+-- the arrow at place a is counted off: one fewer holds its `to` back, and where it was the last one, the place of `to` in the order is marked
+pub record CountedOff (arrows : List (List ℕ)) (rank L R G L′ R′ G′ : List ℕ) (a : ℕ) : Type 0 where
+  pub fewer : L′ ≡ set L (toOf arrows a) (getD L (toOf arrows a) 0 - 1)
+  pub marked : MarkedIf (getD L (toOf arrows a) 0 - 1) R G R′ G′ (getD rank (toOf arrows a) 0)

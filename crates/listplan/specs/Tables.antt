@@ -1,0 +1,67 @@
+-- The tables that are made once for a list plan: the arrows as chains, how many arrows go to each subtask, and where each stands in the order.
+use mathlib.Core.Path.{_≡_}
+use mathlib.Core.Logic.{_≢_, _⊎_}
+use mathlib.Core.List.{List}
+use Prim.Native.Nat.{ℕ, zero, suc, _-_, _/_, _≤_, _<_}
+use lib.ListN.{length, getD, set}
+use Rattle.terms.specs.Graphs.{fromOf, toOf}
+
+-- k of the places below n are so
+unfoldable pub Count : (ℕ → Type 0) → ℕ → ℕ → Type 0
+Count IsSo zero k = k ≡ 0
+Count IsSo (suc n) k = (IsSo n × (1 ≤ k) × Count IsSo n (k - 1)) ⊎ ((¬ IsSo n) × Count IsSo n k)
+
+-- what the tables have room for
+pub record Roomy (arrows : List (List ℕ)) : Type 0 where
+  pub few : length arrows ≤ 2048
+  pub from-small : (a : ℕ) → a < length arrows → fromOf arrows a < 257
+  pub to-small : (a : ℕ) → a < length arrows → toOf arrows a < 257
+
+-- x is the position, counted from 1, of the last arrow from u among those below b, and 0 where there is none
+pub record LastFrom (arrows : List (List ℕ)) (u b x : ℕ) : Type 0 where
+  pub within : x ≤ b
+  pub gap : (a : ℕ) → x ≤ a → a < b → fromOf arrows a ≢ u
+  pub here : 0 < x → fromOf arrows (x - 1) ≡ u
+
+-- the chains of the arrows below b, one for each subtask that they come from
+pub record Chains (arrows : List (List ℕ)) (first next : List ℕ) (b : ℕ) : Type 0 where
+  pub long-first : length first ≡ 257
+  pub long-next : length next ≡ 2048
+  pub start : (u : ℕ) → u < 257 → LastFrom arrows u b (getD first u 0)
+  pub step : (a : ℕ) → a < b → LastFrom arrows (fromOf arrows a) a (getD next a 0)
+
+-- how many of the arrows below b go to each subtask
+pub record Tally (arrows : List (List ℕ)) (left : List ℕ) (b : ℕ) : Type 0 where
+  pub long : length left ≡ 257
+  pub count : (s : ℕ) → s < 257 → Count (λ a. toOf arrows a ≡ s) b (getD left s 0)
+
+-- an order of subtasks, for which the tables have room
+pub record Distinct (order : List ℕ) : Type 0 where
+  pub few : length order ≤ 256
+  pub small : (x : ℕ) → x < length order → getD order x 0 < 257
+  pub once : (x y : ℕ) → x < y → y < length order → getD order x 0 ≢ getD order y 0
+
+-- where each of the first b of the order stands
+pub record Ranks (order rank : List ℕ) (b : ℕ) : Type 0 where
+  pub long : length rank ≡ 257
+  pub stands : (x : ℕ) → x < b → getD rank (getD order x 0) 0 ≡ x
+
+-- G has a 0 only for a group of sixteen places of which none is marked
+pub record Grouped (R G : List ℕ) : Type 0 where
+  pub long : length G ≡ 16
+  pub none : (y : ℕ) → y < 256 → getD G (y / 16) 0 ≡ 0 → getD R y 0 ≢ 1
+
+-- place x is marked where k is 0
+pub record MarkedIf (k : ℕ) (R G R′ G′ : List ℕ) (x : ℕ) : Type 0 where
+  pub ifSo : k ≡ 0 → (R′ ≡ set R x 1) × (G′ ≡ set G (x / 16) 1)
+  pub ifNot : k ≢ 0 → (R′ ≡ R) × (G′ ≡ G)
+
+-- a mark says that no arrow goes there
+pub record Mark (arrows mark : ℕ) : Type 0 where
+  pub none : mark ≡ 1 → arrows ≡ 0
+  pub marked : arrows ≡ 0 → mark ≡ 1
+
+-- of the first b of the order, those are marked that no arrow goes to
+pub record Sources (order left ready : List ℕ) (b : ℕ) : Type 0 where
+  pub long : length ready ≡ 256
+  pub marks : (x : ℕ) → x < b → Mark (getD left (getD order x 0) 0) (getD ready x 0)

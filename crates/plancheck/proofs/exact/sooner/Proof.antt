@@ -1,0 +1,38 @@
+-- `sooner`: the earliest so far, with one end more. Assumes nothing.
+use borrow.Author.Needs.{needs}
+use Rattle.plancheck.proofs.Counts.{earliest-stays, earliest-moves, earliest-skips}
+use Rattle.plancheck.proofs.exact.sooner.Statement.{statement}
+use Rattle.plancheck.proofs.exact.sooner.Tie as tie
+
+add-end-of : tie.Need-add-end-of
+add-end-of c = search needs
+
+end-of-requires : tie.Need-end-of-requires
+end-of-requires c κs =
+    let c-pre = c .before .before .pre in
+    (c-pre .0 .2, c-pre .0 .0)
+
+returns : tie.Need-returns
+returns c =
+    let c-pre = c .before .before .before .before .pre in
+    earliest-stays _ _ _ _ (c-pre .1) (c .before .end-of .ensures) (c .if1 .taken)
+
+first-idle-requires : tie.Need-first-idle-requires
+first-idle-requires c κs = search needs
+
+returns-2 : tie.Need-returns-2
+returns-2 c =
+    let c-pre = c .before .before .before .before .before .before .pre in
+    let c-end-of = c .before .before .before .end-of in
+    let c-if1 = c .before .before .if1 in
+    earliest-moves _ _ _ _ (c-pre .1) (c-end-of .ensures) (c .before .first-idle .ensures) (c .if2 .taken) (c-if1 .left)
+
+returns-3 : tie.Need-returns-3
+returns-3 c =
+    let c-pre = c .before .before .before .before .before .before .pre in
+    let c-end-of = c .before .before .before .end-of in
+    earliest-skips _ _ _ _ (c-pre .1) (c-end-of .ensures) (c .before .first-idle .ensures) (c .if2 .left)
+
+pub sooner-spec : {M : Type 1} → statement M
+sooner-spec =
+    tie.close (tie.spec add-end-of end-of-requires returns first-idle-requires returns-2 returns-3)

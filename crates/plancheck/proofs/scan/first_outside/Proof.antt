@@ -1,0 +1,67 @@
+-- `first_outside`: the first subtask with a processor outside 1..m. Assumes nothing.
+use Prim.Native.Nat.{_-_, _≤_}
+use native.Mathlib.Omega.{arith}
+use lib.ListN.{length}
+use borrow.Author.Needs.{needs}
+use Rattle.terms.specs.Graphs.{Among}
+use Rattle.entries.specs.Entries.{itemOf}
+use Rattle.graph.proofs.Firsts.{first-here, first-none}
+use borrow.Author.Count.{below-more}
+use Rattle.plancheck.proofs.Firsts.{NoneTo}
+use Rattle.plancheck.proofs.scan.first_outside.Statement.{statement}
+use Rattle.plancheck.proofs.scan.first_outside.Tie as tie
+
+abbrev Inv-loop : tie.InvT-loop
+Inv-loop procs m j₀ j = (j ≤ length procs) × NoneTo (λ k. ¬ Among 1 m (itemOf procs k)) j
+
+abbrev μ-loop : tie.MeasureT-loop
+μ-loop procs m j₀ j = length procs - j
+
+loop-holds : tie.Need-loop-holds Inv-loop μ-loop
+loop-holds c = (omega arith, λ k l. absurd (omega arith))
+
+add-j : tie.Need-add-j Inv-loop μ-loop
+add-j c = search needs
+
+processor-of-requires : tie.Need-processor-of-requires Inv-loop μ-loop
+processor-of-requires c κs = search needs
+
+returns : tie.Need-returns Inv-loop μ-loop
+returns c =
+    let c-loop-test = c .before .before .loop-test in
+    let c-loop = c .before .before .before .loop in
+    first-here _ _ _ (c-loop-test .taken) (c-loop .inv .1) (λ h. omega (arith, h .low))
+
+returns-2 : tie.Need-returns-2 Inv-loop μ-loop
+returns-2 c =
+    let c-loop-test = c .before .before .before .loop-test in
+    let c-loop = c .before .before .before .before .loop in
+    first-here _ _ _ (c-loop-test .taken) (c-loop .inv .1) (λ h. omega (arith, h .high))
+
+loop-less : tie.Need-loop-less Inv-loop μ-loop
+loop-less c = search needs
+
+loop-again : tie.Need-loop-again Inv-loop μ-loop
+loop-again c =
+    let c-loop = c .before .before .before .before .loop in
+    (omega arith, below-more _ _ (c-loop .inv .1) (λ h. h (record { low = omega arith; high = omega arith })))
+
+returns-3 : tie.Need-returns-3 Inv-loop μ-loop
+returns-3 c =
+    let c-loop = c .before .loop in
+    first-none _ _ _ (c-loop .inv .1) (c .loop-test .left)
+
+pub first-outside-spec : {M : Type 1} → statement M
+first-outside-spec =
+    tie.close
+    (tie.spec
+    Inv-loop
+    μ-loop
+    loop-holds
+    add-j
+    processor-of-requires
+    returns
+    returns-2
+    loop-less
+    loop-again
+    returns-3)

@@ -1,0 +1,4 @@
+pub mod Tables
+pub mod Known
+pub mod Scans
+pub mod Sweeps

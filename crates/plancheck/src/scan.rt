@@ -1,0 +1,83 @@
+// The scans for 13 to 15. Each answers the first subtask that is so, and 0 for none.
+use crate::read::end_of;
+use crate::read::from_at;
+use crate::read::processor_of;
+use crate::read::start_of;
+use crate::read::to_at;
+use terms::LATEST_START;
+ghost use mathlib.Core.Path.{_≡_};
+ghost use Prim.Native.Nat.{_≤_, _<_, max};
+ghost use lib.ListN.{length, getD, replicate};
+ghost use Rattle.terms.specs.Graphs.{Among};
+ghost use Rattle.theory.specs.Sound.{SoundGraph};
+ghost use Rattle.entries.specs.Entries.{itemOf};
+ghost use Rattle.plancheck.specs.Known.{Timed, LatestEnds};
+ghost use Rattle.plancheck.specs.Scans.{FirstSubtask};
+
+// 13: a processor outside 1..m.
+pub fn first_outside(procs: &[u8], m: u32) -> usize
+    ensures { λ r. ⌜ FirstSubtask (length (now (procs .entry))) (λ j. ¬ Among 1 m (itemOf (now (procs .entry)) j)) r ⌝ }
+{
+    let mut j: usize = 0;
+    while j < procs.len() {
+        j += 1;
+        let p = processor_of(procs, j);
+        if p < 1 {
+            return j;
+        }
+        if m < p {
+            return j;
+        }
+    }
+    0
+}
+
+// 14: a start above 16,776,960.
+pub fn first_late(starts: &[u32]) -> usize
+    ensures { λ r. ⌜ FirstSubtask (length (now (starts .entry))) (λ j. 16776960 < itemOf (now (starts .entry)) j) r ⌝ }
+{
+    let mut j: usize = 0;
+    while j < starts.len() {
+        j += 1;
+        if LATEST_START < start_of(starts, j) {
+            return j;
+        }
+    }
+    0
+}
+
+fn larger(a: u32, b: u32) -> u32
+    ensures { λ r. ⌜ r ≡ max a b ⌝ }
+{
+    if a < b { b } else { a }
+}
+
+// Leaves the latest end of a predecessor of each subtask in `ready`, 0 where it has none.
+pub fn latest_ends(times: &[u16], arrows: &[[u16; 2]], starts: &[u32], ready: &mut [u32; 257])
+    requires { ⌜ SoundGraph (now times) (now arrows) × Timed (now times) (now starts) × (now ready ≡ replicate 257 0) ⌝ }
+    ensures { λ _. ⌜ LatestEnds (now (times .entry)) (now (arrows .entry)) (now (starts .entry)) (length (now (arrows .entry))) (now (ready .exit)) ⌝ }
+{
+    let mut i: usize = 0;
+    while i < arrows.len() {
+        let u = from_at(arrows, i);
+        let v = to_at(arrows, i);
+        let e = end_of(times, starts, u);
+        ready[v] = larger(ready[v], e);
+        i += 1;
+    }
+}
+
+// 15: a start before the latest end of a predecessor.
+pub fn first_early(starts: &[u32], ready: &[u32; 257]) -> usize
+    requires { ⌜ (length (now starts) ≤ 256) × (length (now ready) ≡ 257) ⌝ }
+    ensures { λ r. ⌜ FirstSubtask (length (now (starts .entry))) (λ j. itemOf (now (starts .entry)) j < getD (now (ready .entry)) j 0) r ⌝ }
+{
+    let mut j: usize = 0;
+    while j < starts.len() {
+        j += 1;
+        if start_of(starts, j) < ready[j] {
+            return j;
+        }
+    }
+    0
+}
