@@ -1,0 +1,11 @@
+pub mod LineHeads
+pub mod OneArrow
+pub mod Onward
+pub mod OneLine
+pub mod Followers
+pub mod Laid
+pub mod Whole
+pub mod Clipped
+pub mod Filled
+pub mod Pairs
+pub mod Replied

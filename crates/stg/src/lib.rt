@@ -1,0 +1,116 @@
+// The reader of STG texts: one pass over the text, line by line, field by field.
+mod fields;
+mod others;
+mod rows;
+mod subtasks;
+
+use graph::check;
+use others::Opening;
+use others::take_closing;
+use others::take_opening;
+use rows::clear_past;
+use subtasks::Step;
+use subtasks::take_tasks;
+use terms::Check;
+use terms::Counts;
+use terms::GraphSize;
+use terms::LONGEST_TEXT;
+use terms::MOST_ARROWS;
+use terms::MOST_SUBTASKS;
+use terms::Refusal;
+ghost use mathlib.Core.Path.{_≡_};
+ghost use Prim.Native.Nat.{_≤_};
+ghost use lib.ListN.{length};
+ghost use Rattle.terms.specs.Texts.{lines};
+ghost use Rattle.terms.specs.Readings.{readLines, readText, IsRead};
+ghost use Rattle.stg.specs.Told.{Leaves};
+ghost use Rattle.stg.specs.Held.{ChecksRead, RoomOf, TellsOf, keptBy};
+
+// All lines of a text, its graph put down in the two rows.
+fn read_lines(text: &[u8], times: &mut [u16], arrows: &mut [[u16; 2]]) -> Counts
+    requires { ⌜ 256 ≤ length (now times) ⌝ }
+    ensures { λ r. ⌜ Leaves (now (times .entry)) (now (arrows .entry)) (readLines (lines (now (text .entry)))) (now (times .exit)) (now (arrows .exit)) r ⌝ }
+{
+    match take_opening(text) {
+        Opening::Refused(refusal) => Counts::Refused(refusal),
+        Opening::Subtasks(n, e) => match take_tasks(text, e, n, times, arrows) {
+            Step::Refused(refusal) => Counts::Refused(refusal),
+            Step::Counted(a, f) => match take_closing(text, f, n + 1) {
+                Check::Refused(refusal) => Counts::Refused(refusal),
+                Check::Sound => Counts::Read(GraphSize {
+                    subtasks: n,
+                    arrows: a,
+                }),
+            },
+        },
+    }
+}
+
+// 2 to 7, asked of a graph that was read. Of more than 2,048 arrows the row holds the first ones: only 2 or 3 can be the answer then.
+fn check_read(times: &[u16], n: usize, arrows: &[[u16; 2]], a: usize) -> Check
+    requires { ⌜ (1 ≤ n) × (n ≤ 256) × (256 ≤ length (now times)) × (2048 ≤ length (now arrows)) ⌝ }
+    ensures { λ r. ⌜ ChecksRead (now (times .entry)) n (now (arrows .entry)) a r ⌝ }
+{
+    if a <= MOST_ARROWS {
+        return check(&times[..n], &arrows[..a]);
+    }
+    match check(&times[..n], &arrows[..0]) {
+        Check::Sound => Check::Refused(Refusal { number: 3 }),
+        Check::Refused(refusal) => Check::Refused(refusal),
+    }
+}
+
+// Whether the two rows are long enough, and the text is short enough.
+fn check_room(times: usize, arrows: usize, text: usize) -> Check
+    ensures { λ r. ⌜ RoomOf times arrows text r ⌝ }
+{
+    if times < MOST_SUBTASKS {
+        return Check::Refused(Refusal { number: 11 });
+    }
+    if arrows < MOST_ARROWS {
+        return Check::Refused(Refusal { number: 11 });
+    }
+    if LONGEST_TEXT < text {
+        return Check::Refused(Refusal { number: 20 });
+    }
+    Check::Sound
+}
+
+// The reader, but for the places past the last time and the last arrow; with a refusal the rows may hold anything.
+fn read_graph(text: &[u8], times: &mut [u16], arrows: &mut [[u16; 2]]) -> Counts
+    ensures { λ r. ⌜ TellsOf (readText (length (now (times .entry))) (length (now (arrows .entry))) (now (text .entry))) (now (times .exit)) (now (arrows .exit)) r ⌝ }
+{
+    match check_room(times.len(), arrows.len(), text.len()) {
+        Check::Refused(refusal) => Counts::Refused(refusal),
+        Check::Sound => match read_lines(text, times, arrows) {
+            Counts::Refused(refusal) => Counts::Refused(refusal),
+            Counts::Read(size) => match check_read(times, size.subtasks, arrows, size.arrows) {
+                Check::Refused(refusal) => Counts::Refused(refusal),
+                Check::Sound => Counts::Read(size),
+            },
+        },
+    }
+}
+
+// How much of the two rows a reply keeps: nothing with a refusal.
+fn kept_by(reply: Counts) -> GraphSize
+    ensures { λ r. ⌜ r ≡ keptBy reply ⌝ }
+{
+    match reply {
+        Counts::Read(size) => size,
+        Counts::Refused(_) => GraphSize {
+            subtasks: 0,
+            arrows: 0,
+        },
+    }
+}
+
+// Reads an STG text: the counts, and the graph in the two rows, with zeros past it; or a refusal, and rows of zeros.
+pub fn read_stg(text: &[u8], times: &mut [u16], arrows: &mut [[u16; 2]]) -> Counts
+    ensures { λ r. ⌜ IsRead (length (now (times .entry))) (length (now (arrows .entry))) (now (text .entry)) (now (times .exit)) (now (arrows .exit)) r ⌝ }
+{
+    let reply = read_graph(text, times, arrows);
+    let kept = kept_by(reply);
+    clear_past(times, kept.subtasks, arrows, kept.arrows);
+    reply
+}

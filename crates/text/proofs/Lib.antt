@@ -1,0 +1,4 @@
+pub mod Digits
+pub mod Places
+pub mod Lines
+pub mod Steps

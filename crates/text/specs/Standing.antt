@@ -1,0 +1,40 @@
+-- The rest of the line at a place of a text, the lines after it, and what one step along the line says of them.
+use mathlib.Core.Path.{_≡_}
+use mathlib.Core.List.{List, [], _∷_}
+use mathlib.Core.Bool.{true, false, cond}
+use Prim.Native.Nat.{ℕ, _≤_, _<_}
+use lib.ListN.{length, drop}
+use Rattle.terms.specs.Texts.{isFeed, endsHere, lines, proper, numbers}
+use Rattle.text.specs.declared.Next.{Next}
+use Rattle.text.specs.declared.Next.the-variants as next
+
+-- the rest of the line, and the lines after it
+unfoldable pub line : List ℕ → List ℕ
+line [] = []
+line (b ∷ text) = cond (endsHere (b ∷ text)) [] (b ∷ line text)
+
+unfoldable pub later : List ℕ → List (List ℕ)
+later [] = []
+later (b ∷ text) = cond (isFeed b) (lines text) (later text)
+
+-- the line at hand has no further field, and the next line begins at e
+pub record Ended (text : List ℕ) (at e : ℕ) : Type 0 where
+  pub sound : proper (line (drop at text)) ≡ true
+  pub none : numbers (line (drop at text)) ≡ []
+  pub next : later (drop at text) ≡ lines (drop e text)
+  pub inside : e ≤ length text
+  pub past : at ≤ e
+  pub on : at < length text → at < e
+
+-- the next field of the line at hand has the value v and is passed at e
+pub record Passed (text : List ℕ) (at v e : ℕ) : Type 0 where
+  pub sound : proper (line (drop at text)) ≡ proper (line (drop e text))
+  pub some : numbers (line (drop at text)) ≡ v ∷ numbers (line (drop e text))
+  pub next : later (drop at text) ≡ later (drop e text)
+  pub inside : e ≤ length text
+  pub on : at < e
+
+abbrev pub Stands : List ℕ → ℕ → Next → Type 0
+Stands text at (next.LineEnd e) = Ended text at e
+Stands text at next.Misshapen = proper (line (drop at text)) ≡ false
+Stands text at (next.Field v e) = Passed text at v e
