@@ -1,0 +1,97 @@
+// Reads an STG text from standard input, and prints C, P, S and the end of the list plan in the order 1..n for 1 to 4 processors.
+use libc::STDIN_FILENO;
+use libc::STDOUT_FILENO;
+use plans::list_row;
+use stg::read_stg;
+use terms::Counts;
+use terms::Entry;
+use terms::Figures;
+use terms::PlanEnd;
+use terms::Processor;
+use terms::Refusal;
+use verdict::judge;
+ghost use mathlib.Core.Path.{_≡_};
+ghost use lib.ListN.{length};
+
+// A number, and the byte after it.
+fn print(number: u32, after: u8) {
+    io::print_decimal(STDOUT_FILENO, number as u64);
+    io::write_all(STDOUT_FILENO, &[after]);
+}
+
+fn print_refusal(refusal: Refusal) {
+    io::write_all(STDOUT_FILENO, b"refused,");
+    print(refusal.number as u32, b'\n');
+}
+
+fn print_line(m: u32, figures: Figures, end: u32) {
+    print(m, b',');
+    print(figures.c, b',');
+    print(figures.p, b',');
+    print(figures.s, b',');
+    print(end, b'\n');
+}
+
+// The order 1, 2, 3, ..
+fn in_turn() -> [u16; 256]
+    ensures { λ r. ⌜ length r ≡ 256 ⌝ }
+{
+    let mut order = [0u16; 256];
+    let mut j: u16 = 0;
+    while j < 256 {
+        order[j as usize] = j + 1;
+        j += 1;
+    }
+    order
+}
+
+// One line of the table. An accepted graph is refused by neither call.
+fn report(times: &[u16], arrows: &[[u16; 2]], m: u32, order: &[u16]) {
+    let answer = judge(times, arrows, m, 1);
+    let row = [Entry {
+        processor: Processor(0),
+        start: 0,
+    }; 256];
+    let listed = list_row(times, arrows, m, order, row, times.len());
+    let reply = listed.reply;
+    match reply {
+        PlanEnd::Refused(refusal) => print_refusal(refusal),
+        PlanEnd::Ends(end) => print_line(m, answer.figures, end),
+    }
+}
+
+fn table(times: &[u16], arrows: &[[u16; 2]]) {
+    let all = in_turn();
+    let n = times.len();
+    if 256 < n {
+        return;
+    }
+    let order: &[u16] = &all[..n];
+    io::write_all(STDOUT_FILENO, b"M,C,P,S,end\n");
+    let mut m: u32 = 1;
+    while m <= 4 {
+        report(times, arrows, m, order);
+        m += 1;
+    }
+}
+
+// The table of the text's graph, or the refusal.
+fn run(text: &[u8]) {
+    let mut times = [0u16; 256];
+    let mut arrows = [[0u16; 2]; 2048];
+    match read_stg(text, &mut times, &mut arrows) {
+        Counts::Refused(refusal) => print_refusal(refusal),
+        Counts::Read(size) => {
+            let subtasks = size.subtasks;
+            let count = size.arrows;
+            table(&times[..subtasks], &arrows[..count]);
+        }
+    }
+}
+
+// One byte more than a text may have is enough to refuse a longer one.
+fn main() {
+    let mut text = io::large_buffer();
+    let n = io::read_full(STDIN_FILENO, &mut text[..60001]);
+    run(&text[..n]);
+}

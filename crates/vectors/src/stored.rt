@@ -1,0 +1,175 @@
+// What the planner says of a text, held to the output that an independent implementation gave for it.
+use plans::check_row;
+use plans::list_row;
+use stg::read_stg;
+use terms::Counts;
+use terms::Entry;
+use terms::Outcome;
+use terms::PlanEnd;
+use terms::Processor;
+use terms::Verdict;
+use verdict::judge;
+ghost use mathlib.Core.Path.{_≡_};
+ghost use lib.ListN.{length};
+
+// A number of a stored output, and the place behind the byte after it.
+pub struct Stored {
+    pub value: u32,
+    pub next: usize,
+}
+
+fn number_at(output: &[u8], at: usize) -> Stored {
+    let mut value: u32 = 0;
+    let mut i = at;
+    while i < output.len() {
+        let b = output[i];
+        i += 1;
+        if b < 48 {
+            return Stored { value, next: i };
+        }
+        if 57 < b {
+            return Stored { value, next: i };
+        }
+        value = value % 100000000 * 10 + (b - 48) as u32;
+    }
+    Stored { value, next: i }
+}
+
+// The figures of one line, as they were stored.
+pub struct Line {
+    pub m: u32,
+    pub c: u32,
+    pub p: u32,
+    pub s: u32,
+    pub end: u32,
+    pub next: usize,
+}
+
+fn line_at(output: &[u8], at: usize) -> Line {
+    let m = number_at(output, at);
+    let c = number_at(output, m.next);
+    let p = number_at(output, c.next);
+    let s = number_at(output, p.next);
+    let end = number_at(output, s.next);
+    Line {
+        m: m.value,
+        c: c.value,
+        p: p.value,
+        s: s.value,
+        end: end.value,
+        next: end.next,
+    }
+}
+
+// C, P and S, and the verdict against 1,000 microseconds, which follows from the stored S.
+fn figures_agree(times: &[u16], arrows: &[[u16; 2]], line: Line) -> bool {
+    let answer = judge(times, arrows, line.m, 1000);
+    let figures = answer.figures;
+    if figures.c != line.c {
+        return false;
+    }
+    if figures.p != line.p {
+        return false;
+    }
+    if figures.s != line.s {
+        return false;
+    }
+    let outcome = answer.outcome;
+    match outcome {
+        Outcome::Refused(_) => false,
+        Outcome::Judged(verdict) => match verdict {
+            Verdict::Fits(spare) => line.s as u64 + (spare as u64) == line.m as u64 * 1000,
+            Verdict::Late(shortfall) => line.s as u64 == line.m as u64 * 1000 + (shortfall as u64),
+        },
+    }
+}
+
+// The list plan's end, which the plan check gives too.
+fn plan_agrees(times: &[u16], arrows: &[[u16; 2]], line: Line, order: &[u16]) -> bool {
+    let n = times.len();
+    let row = [Entry {
+        processor: Processor(0),
+        start: 0,
+    }; 256];
+    let listed = list_row(times, arrows, line.m, order, row, n);
+    let reply = listed.reply;
+    let entries = listed.entries;
+    match reply {
+        PlanEnd::Refused(_) => false,
+        PlanEnd::Ends(end) => {
+            if end != line.end {
+                return false;
+            }
+            match check_row(times, arrows, line.m, entries, n) {
+                PlanEnd::Refused(_) => false,
+                PlanEnd::Ends(checked) => checked == end,
+            }
+        }
+    }
+}
+
+// The order 1, 2, 3, ..
+fn in_turn() -> [u16; 256]
+    ensures { λ r. ⌜ length r ≡ 256 ⌝ }
+{
+    let mut order = [0u16; 256];
+    let mut j: u16 = 0;
+    while j < 256 {
+        order[j as usize] = j + 1;
+        j += 1;
+    }
+    order
+}
+
+// The lines for 1 to 4 processors, behind the header.
+fn table_agrees(times: &[u16], arrows: &[[u16; 2]], output: &[u8]) -> bool {
+    let all = in_turn();
+    let n = times.len();
+    if 256 < n {
+        return false;
+    }
+    let order: &[u16] = &all[..n];
+    let mut at: usize = 12;
+    let mut m: u32 = 1;
+    while m <= 4 {
+        let line = line_at(output, at);
+        if line.m != m {
+            return false;
+        }
+        if !figures_agree(times, arrows, line) {
+            return false;
+        }
+        if !plan_agrees(times, arrows, line, order) {
+            return false;
+        }
+        at = line.next;
+        m += 1;
+    }
+    true
+}
+
+// "refused," and the number.
+fn refusal_agrees(number: u8, output: &[u8]) -> bool {
+    if output.len() < 9 {
+        return false;
+    }
+    if output[0] != b'r' {
+        return false;
+    }
+    let stored = number_at(output, 8);
+    stored.value == number as u32
+}
+
+// Whether the planner says of the text what the stored output says.
+pub fn agrees(text: &[u8], output: &[u8]) -> bool {
+    let mut times = [0u16; 256];
+    let mut arrows = [[0u16; 2]; 2048];
+    match read_stg(text, &mut times, &mut arrows) {
+        Counts::Refused(refusal) => refusal_agrees(refusal.number, output),
+        Counts::Read(size) => {
+            let subtasks = size.subtasks;
+            let count = size.arrows;
+            table_agrees(&times[..subtasks], &arrows[..count], output)
+        }
+    }
+}
