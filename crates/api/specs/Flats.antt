@@ -1,0 +1,58 @@
+-- The replies of document 01 as flat records: success has number 0, and with a refusal every other field is 0.
+use mathlib.Core.Path.{_≡_}
+use mathlib.Core.Bool.{false}
+use Prim.Native.Nat.{ℕ, _≤_}
+use lib.IntN.{pos}
+use lib.Ieee.{fin}
+use Rattle.terms.specs.declared.Amount.{Amount}
+use Rattle.terms.specs.declared.Amount.the-variants as amount
+use Rattle.terms.specs.declared.Figures.{Figures}
+use Rattle.terms.specs.declared.Verdict.the-variants as verdict
+use Rattle.terms.specs.declared.Outcome.{Outcome}
+use Rattle.terms.specs.declared.Outcome.the-variants as outcome
+use Rattle.terms.specs.declared.Answer.{Answer}
+use Rattle.terms.specs.declared.PlanEnd.{PlanEnd}
+use Rattle.terms.specs.declared.PlanEnd.the-variants as planEnd
+use Rattle.terms.specs.declared.Counts.{Counts}
+use Rattle.terms.specs.declared.Counts.the-variants as counts
+use Rattle.api.specs.declared.FlatAmount.{FlatAmount}
+use Rattle.api.specs.declared.FlatAnswer.{FlatAnswer}
+use Rattle.api.specs.declared.FlatEnd.{FlatEnd}
+use Rattle.api.specs.declared.FlatCounts.{FlatCounts}
+
+-- r is the flat form of a reply that is as stated
+pub record Flattens {A B : Type 0} (Is : A → Type 0) (flat : A → B) (r : B) : Type 0 where
+  pub reply : A
+  pub is : Is reply
+  pub same : r ≡ flat reply
+
+abbrev pub flatAmount : Amount → FlatAmount
+flatAmount (amount.Is value) = record { number = 0; value = value }
+flatAmount (amount.Refused refusal) = record { number = refusal .number; value = 0 }
+
+-- fits 1: the margin is the spare; fits 0: it is the shortfall
+abbrev pub flatJudged : Figures → ℕ → ℕ → FlatAnswer
+flatJudged figures fits margin =
+    record { number = 0; c = figures .c; p = figures .p; s = figures .s; load = figures .load; fits = fits; margin = margin }
+
+abbrev pub flatOutcome : Figures → Outcome → FlatAnswer
+flatOutcome figures (outcome.Judged (verdict.Fits spare)) = flatJudged figures 1 spare
+flatOutcome figures (outcome.Judged (verdict.Late shortfall)) = flatJudged figures 0 shortfall
+flatOutcome figures (outcome.Refused refusal) =
+    record { number = refusal .number; c = 0; p = 0; s = 0; load = fin false 0 (pos 0); fits = 0; margin = 0 }
+
+abbrev pub flatAnswer : Answer → FlatAnswer
+flatAnswer answer = flatOutcome (answer .figures) (answer .outcome)
+
+abbrev pub flatEnd : PlanEnd → FlatEnd
+flatEnd (planEnd.Ends end) = record { number = 0; end = end }
+flatEnd (planEnd.Refused refusal) = record { number = refusal .number; end = 0 }
+
+abbrev pub flatCounts : Counts → FlatCounts
+flatCounts (counts.Read size) = record { number = 0; subtasks = size .subtasks; arrows = size .arrows }
+flatCounts (counts.Refused refusal) = record { number = refusal .number; subtasks = 0; arrows = 0 }
+
+-- counts of a graph that is accepted; both have room in 32 bits
+abbrev pub InRange : Counts → Type 0
+InRange (counts.Read size) = (size .subtasks ≤ 256) × (size .arrows ≤ 2048)
+InRange (counts.Refused refusal) = Unit {0}

@@ -1,0 +1,195 @@
+// What C and Rust link: each call of the planner, its reply a flat record. Number 0 is success; with a refusal every other field is 0.
+use graph::longest_path;
+use graph::total_work;
+use plans::check_plan;
+use plans::list_plan;
+use stg::read_stg;
+use terms::Amount;
+use terms::Answer;
+use terms::Counts;
+use terms::Entry;
+use terms::Figures;
+use terms::Outcome;
+use terms::PlanEnd;
+use terms::Verdict;
+use verdict::judge;
+ghost use mathlib.Core.Path.{_≡_};
+ghost use lib.ListN.{length};
+ghost use Rattle.terms.specs.Replies.{IsTotalWork, IsLongestPath, IsAnswer, IsListed, IsChecked};
+ghost use Rattle.terms.specs.Readings.{IsRead};
+ghost use Rattle.api.specs.Flats.{Flattens, InRange, flatAmount, flatJudged, flatAnswer, flatEnd, flatCounts};
+
+// C or P.
+#[repr(C)]
+pub struct FlatAmount {
+    pub number: u32,
+    pub value: u32,
+}
+
+// C, P, S and the load; fits 1: the margin is the spare, fits 0: it is the shortfall.
+#[repr(C)]
+pub struct FlatAnswer {
+    pub number: u32,
+    pub c: u32,
+    pub p: u32,
+    pub s: u32,
+    pub load: f32,
+    pub fits: u32,
+    pub margin: u32,
+}
+
+// Where a plan ends.
+#[repr(C)]
+pub struct FlatEnd {
+    pub number: u32,
+    pub end: u32,
+}
+
+// How many subtasks and arrows a text has.
+#[repr(C)]
+pub struct FlatCounts {
+    pub number: u32,
+    pub subtasks: u32,
+    pub arrows: u32,
+}
+
+fn flatten_amount(reply: Amount) -> FlatAmount
+    ensures { λ r. ⌜ r ≡ flatAmount reply ⌝ }
+{
+    match reply {
+        Amount::Is(value) => FlatAmount { number: 0, value },
+        Amount::Refused(refusal) => FlatAmount {
+            number: refusal.number as u32,
+            value: 0,
+        },
+    }
+}
+
+fn flatten_judged(figures: Figures, fits: u32, margin: u32) -> FlatAnswer
+    ensures { λ r. ⌜ r ≡ flatJudged figures fits margin ⌝ }
+{
+    FlatAnswer {
+        number: 0,
+        c: figures.c,
+        p: figures.p,
+        s: figures.s,
+        load: figures.load,
+        fits,
+        margin,
+    }
+}
+
+fn flatten_answer(reply: Answer) -> FlatAnswer
+    ensures { λ r. ⌜ r ≡ flatAnswer reply ⌝ }
+{
+    let figures = reply.figures;
+    let outcome = reply.outcome;
+    match outcome {
+        Outcome::Judged(verdict) => match verdict {
+            Verdict::Fits(spare) => flatten_judged(figures, 1, spare),
+            Verdict::Late(shortfall) => flatten_judged(figures, 0, shortfall),
+        },
+        Outcome::Refused(refusal) => FlatAnswer {
+            number: refusal.number as u32,
+            c: 0,
+            p: 0,
+            s: 0,
+            load: 0.0,
+            fits: 0,
+            margin: 0,
+        },
+    }
+}
+
+fn flatten_end(reply: PlanEnd) -> FlatEnd
+    ensures { λ r. ⌜ r ≡ flatEnd reply ⌝ }
+{
+    match reply {
+        PlanEnd::Ends(end) => FlatEnd { number: 0, end },
+        PlanEnd::Refused(refusal) => FlatEnd {
+            number: refusal.number as u32,
+            end: 0,
+        },
+    }
+}
+
+fn flatten_counts(reply: Counts) -> FlatCounts
+    requires { ⌜ InRange reply ⌝ }
+    ensures { λ r. ⌜ r ≡ flatCounts reply ⌝ }
+{
+    match reply {
+        Counts::Read(size) => FlatCounts {
+            number: 0,
+            subtasks: size.subtasks as u32,
+            arrows: size.arrows as u32,
+        },
+        Counts::Refused(refusal) => FlatCounts {
+            number: refusal.number as u32,
+            subtasks: 0,
+            arrows: 0,
+        },
+    }
+}
+
+// C.
+#[no_mangle]
+pub extern "C" fn zul_total_work(times: &[u16], arrows: &[[u16; 2]]) -> FlatAmount
+    ensures { λ r. ⌜ Flattens (IsTotalWork (now (times .entry)) (now (arrows .entry))) flatAmount r ⌝ }
+{
+    flatten_amount(total_work(times, arrows))
+}
+
+// P.
+#[no_mangle]
+pub extern "C" fn zul_longest_path(times: &[u16], arrows: &[[u16; 2]]) -> FlatAmount
+    ensures { λ r. ⌜ Flattens (IsLongestPath (now (times .entry)) (now (arrows .entry))) flatAmount r ⌝ }
+{
+    flatten_amount(longest_path(times, arrows))
+}
+
+// The answer to a deadline question, on m processors with deadline d.
+#[no_mangle]
+pub extern "C" fn zul_judge(times: &[u16], arrows: &[[u16; 2]], m: u32, d: u32) -> FlatAnswer
+    ensures { λ r. ⌜ Flattens (IsAnswer (now (times .entry)) (now (arrows .entry)) m d) flatAnswer r ⌝ }
+{
+    flatten_answer(judge(times, arrows, m, d))
+}
+
+// Where the plan ends, or why it is refused.
+#[no_mangle]
+pub extern "C" fn zul_check_plan(
+    times: &[u16],
+    arrows: &[[u16; 2]],
+    m: u32,
+    plan: &[Entry],
+) -> FlatEnd
+    ensures { λ r. ⌜ Flattens (IsChecked (now (times .entry)) (now (arrows .entry)) m (now (plan .entry))) flatEnd r ⌝ }
+{
+    flatten_end(check_plan(times, arrows, m, plan))
+}
+
+// Writes the list plan to the row, and answers where it ends; or leaves the row as it was, and answers why.
+#[no_mangle]
+pub extern "C" fn zul_list_plan(
+    times: &[u16],
+    arrows: &[[u16; 2]],
+    m: u32,
+    order: &[u16],
+    plan: &mut [Entry],
+) -> FlatEnd
+    ensures { λ r. ⌜ Flattens (IsListed (now (times .entry)) (now (arrows .entry)) m (now (order .entry)) (now (plan .entry)) (now (plan .exit))) flatEnd r ⌝ }
+{
+    flatten_end(list_plan(times, arrows, m, order, plan))
+}
+
+// Reads an STG text: the counts, and the graph in the two rows, with zeros past it; or a refusal, and rows of zeros.
+#[no_mangle]
+pub extern "C" fn zul_read_stg(
+    text: &[u8],
+    times: &mut [u16],
+    arrows: &mut [[u16; 2]],
+) -> FlatCounts
+    ensures { λ r. ⌜ Flattens (IsRead (length (now (times .entry))) (length (now (arrows .entry))) (now (text .entry)) (now (times .exit)) (now (arrows .exit))) flatCounts r ⌝ }
+{
+    flatten_counts(read_stg(text, times, arrows))
+}
