@@ -1,12 +1,9 @@
--- The statement of `draft_plan` fixes the whole draft; and a row into which it is written holds what the list plan promises. Assumes nothing.
+-- The statement of `draft_plan` fixes the whole draft. Assumes nothing.
 use mathlib.Core.Path.{_≡_, refl, sym, ap, ap₂, _∙_}
 use mathlib.Core.List.{List, _++_}
-use Prim.Native.Nat.{ℕ, _≤_}
-use native.Mathlib.Omega.{arith}
-use lib.ListN.{length, take, drop, take-append-drop}
-use lib.Seq.{length-take-le, take-append-seam, drop-append-seam}
+use Prim.Native.Nat.{ℕ}
+use lib.ListN.{take, drop, take-append-drop}
 use Rattle.terms.specs.Refusals.{listRows}
-use Rattle.terms.specs.Replies.{IsListed}
 use Rattle.terms.specs.declared.Entry.{Entry}
 use Rattle.terms.specs.declared.PlanEnd.{PlanEnd}
 use Rattle.terms.specs.declared.PlanEnd.the-variants.{Ends, Refused}
@@ -49,23 +46,3 @@ module _ (times : List ℕ) (arrows : List (List ℕ)) (M : ℕ) (order : List �
         where
           made : {a b : PlanEnd} {T Z : List Entry} {n k : ℕ} → a ≡ b → T ≡ Z → n ≡ k → _≡_ {A = Draft} (record { reply = a; entries = T; n = n }) (record { reply = b; entries = Z; n = k })
           made e f g = rw (e, f, g) refl
-
--- a row of a front and a rest, at the seam
-seam : (front rest : List Entry) (n : ℕ) → length front ≡ n → (take n (front ++ rest) ≡ front) × (drop n (front ++ rest) ≡ rest)
-seam front rest n e = rw (← e) (take-append-seam front rest, drop-append-seam front rest)
-
-module _ (times : List ℕ) (arrows : List (List ℕ)) (M : ℕ) (order : List ℕ) (before after : List Entry) where
-  listed : (reply : PlanEnd) (T : List Entry) (n : ℕ) → IsDrafted times arrows M order (length before) T n reply → BlankFrom T n → after ≡ take n T ++ drop n before
-      → IsListed times arrows M order before after reply
-  unfolding IsDrafted IsListed
-  listed (Ends E) T n (a, h) b e =
-      let few : n ≤ length T = omega (arith, h .count, sound-list times arrows M order (length before) a .0 .count .high, b .long) in
-      let s = seam (take n T) (drop n before) n (length-take-le n T few) in
-      let front : take (length times) after ≡ take n T = rw (e, ← h .count) (s .0) in
-      (a, record { plan = rw front (h .plan); past = rw (e, ← h .count) (s .1); ends = rw front (h .ends) })
-  listed (Refused r) T n (a, z) b e = (a, e ∙ rw z refl)
-
-  -- the draft's entries before the old ones past n
-  pub draft-listed : (d : Draft) → IsDraft times arrows M order (length before) d → after ≡ take (d .n) (d .entries) ++ drop (d .n) before
-      → IsListed times arrows M order before after (d .reply)
-  draft-listed d p e = listed (d .reply) (d .entries) (d .n) (p .drafted) (p .table) e

@@ -14,7 +14,7 @@ use crate::scan::next_to_go;
 use crate::scan::soonest;
 use crate::scan::unmark;
 ghost use mathlib.Core.Path.{_≡_};
-ghost use Prim.Native.Nat.{ℕ, _+_, _-_, _≤_, _<_};
+ghost use Prim.Native.Nat.{_+_, _-_, _≤_, _<_};
 ghost use lib.ListN.{length, getD, set, replicate};
 ghost use Rattle.terms.specs.Graphs.{Among, IsSubtask, timeOf, toOf};
 ghost use Rattle.terms.specs.Paths.{totalWork};

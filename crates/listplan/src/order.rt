@@ -1,6 +1,6 @@
 // Whether a row is an order of all subtasks.
 use crate::read::at_place;
-ghost use Prim.Native.Nat.{ℕ, _≤_};
+ghost use Prim.Native.Nat.{_≤_};
 ghost use lib.ListN.{length};
 ghost use Rattle.terms.specs.ListRule.{IsOrder};
 ghost use Rattle.listplan.specs.Flags.{Says};

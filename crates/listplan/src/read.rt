@@ -2,7 +2,7 @@
 use terms::Arrow;
 use terms::Subtask;
 ghost use mathlib.Core.Path.{_≡_};
-ghost use Prim.Native.Nat.{ℕ, _<_};
+ghost use Prim.Native.Nat.{_<_};
 ghost use lib.ListN.{length, getD};
 ghost use Rattle.terms.specs.Graphs.{IsSubtask, timeOf, fromOf, toOf};
 

@@ -3,7 +3,7 @@
 pub const NEVER: u32 = 4294967295;
 
 ghost use mathlib.Core.Path.{_≡_};
-ghost use Prim.Native.Nat.{ℕ, _≤_, _<_, min};
+ghost use Prim.Native.Nat.{_≤_, _<_, min};
 ghost use lib.ListN.{length, set};
 ghost use Rattle.terms.specs.Graphs.{Among};
 ghost use Rattle.listplan.specs.Tables.{Grouped};

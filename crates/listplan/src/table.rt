@@ -6,7 +6,7 @@ use terms::Entry;
 use terms::PlanEnd;
 use terms::Processor;
 ghost use mathlib.Core.Path.{_≡_};
-ghost use Prim.Native.Nat.{ℕ, _≤_};
+ghost use Prim.Native.Nat.{_≤_};
 ghost use lib.ListN.{length, take, replicate};
 ghost use Rattle.terms.specs.Graphs.{Among};
 ghost use Rattle.terms.specs.Plans.{notPlaced};

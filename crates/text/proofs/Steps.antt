@@ -9,7 +9,7 @@ use mathlib.Core.Logic.{⊎-elim}
 use lib.ListN.{length, drop, length-drop}
 use lib.Seq.{drop-drop}
 use borrow.Author.Tests.{ne-eqb}
-use Rattle.terms.specs.Texts.{all, lines, fields, isField, value, proper, numbers, blanks, word, nextField}
+use Rattle.terms.specs.Texts.{all, fields, isField, value, proper, numbers, blanks, word, nextField}
 use Rattle.text.specs.declared.FieldValue.{FieldValue}
 use Rattle.text.specs.declared.FieldValue.the-variants as fieldValue
 use Rattle.text.specs.declared.Next.the-variants as next

@@ -49,10 +49,6 @@ sound-graph times arrows a =
     }
 
 -- where 1 does not hold, 1 to 7 answer as 2 to 7 do, which are the reader's
-pub graph-as-read : (times : List ℕ) (arrows : List (List ℕ)) (r : ℕ) → Among 1 256 (length times) → Answered (timeAndArrowRows times arrows) r → Answered (graphRows times arrows) r
-unfolding graphRows Answered
-graph-as-read times arrows r count a = inr ((λ h. h count), a)
-
 pub read-as-graph : (times : List ℕ) (arrows : List (List ℕ)) (r : ℕ) → Among 1 256 (length times) → Answered (graphRows times arrows) r → Answered (timeAndArrowRows times arrows) r
 unfolding graphRows Answered
 read-as-graph times arrows r count (inl (h, e)) = absurd (h count)

@@ -9,9 +9,7 @@ pub mod ReadSizes
 -- graphs
 pub mod Work
 pub mod Paths
-pub mod Cycles
 pub mod Longest
-pub mod FinishTimes
 -- plans
 pub mod Ends
 pub mod Running
