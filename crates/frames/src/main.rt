@@ -1,4 +1,5 @@
 // Reads an STG text from standard input, and prints C, P, S and the end of the list plan in the order 1..n for 1 to 4 processors.
+use lent::in_turn;
 use libc::STDIN_FILENO;
 use libc::STDOUT_FILENO;
 use plans::list_row;
@@ -10,8 +11,6 @@ use terms::PlanEnd;
 use terms::Processor;
 use terms::Refusal;
 use verdict::judge;
-ghost use mathlib.Core.Path.{_≡_};
-ghost use lib.ListN.{length};
 
 // A number, and the byte after it.
 fn print(number: u32, after: u8) {
@@ -30,19 +29,6 @@ fn print_line(m: u32, figures: Figures, end: u32) {
     print(figures.p, b',');
     print(figures.s, b',');
     print(end, b'\n');
-}
-
-// The order 1, 2, 3, ..
-fn in_turn() -> [u16; 256]
-    ensures { λ r. ⌜ length r ≡ 256 ⌝ }
-{
-    let mut order = [0u16; 256];
-    let mut j: u16 = 0;
-    while j < 256 {
-        order[j as usize] = j + 1;
-        j += 1;
-    }
-    order
 }
 
 // One line of the table. An accepted graph is refused by neither call.

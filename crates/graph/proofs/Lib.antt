@@ -1,5 +1,6 @@
 pub mod Stores
 pub mod Firsts
+pub mod Faulty
 pub mod Chained
 pub mod Repeated
 pub mod Tallies

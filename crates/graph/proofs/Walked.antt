@@ -149,8 +149,11 @@ module _ (n : ℕ) (arrows : List (List ℕ)) where
     module _ (row marks stack : List ℕ) (depth m root u c : ℕ) (s : State row marks stack depth m root u c) where
       -- ---- no way: the next root
       module _ (ec : c ≡ 0) (eu : u ≡ 0) (more-roots : root ≢ n) where
-        pub root-is : Among 1 n (root + 1)
+        root-is : Among 1 n (root + 1)
         root-is = record { low = omega arith; high = omega (arith, s .roots, more-roots) }
+
+        pub root-small : root + 1 < 257
+        root-small = omega (arith, root-is .high, tidy .subtasks)
 
         pub state-root : getD marks (root + 1) 0 ≢ 1 → State row marks stack depth m (root + 1) u c × (left marks (root + 1) c < left marks root c)
         unfolding left
@@ -174,7 +177,7 @@ module _ (n : ℕ) (arrows : List (List ℕ)) where
             → State row (set marks (root + 1) 2) stack depth m (root + 1) (root + 1) (getD first (root + 1) 0) × (left (set marks (root + 1) 2) (root + 1) (getD first (root + 1) 0) < left marks root c)
         unfolding left
         state-enter isNew =
-            let lp : root + 1 < length marks = omega (arith, root-is .high, tidy .subtasks, s .long-marks) in
+            let lp : root + 1 < length marks = omega (arith, root-small, s .long-marks) in
             let d0 : depth ≡ 0 = s .way .none eu .0 in
             let low : (v : ℕ) → Among 1 n v → getD marks v 0 < 2 = λ v t. omega (arith, s .way .none eu .1 v t) in
             let two : 2 ≤ 2 = omega arith in
@@ -227,11 +230,11 @@ module _ (n : ℕ) (arrows : List (List ℕ)) where
 
       -- ---- at u, its chain is at its end: u is placed
       module _ (ec : c ≡ 0) (nu : u ≢ 0) where
-        pub end-small : u < 257
-        end-small = omega (arith, s .way .end nu .0 .high, tidy .subtasks)
+        u-small : u < 257
+        u-small = omega (arith, s .way .end nu .0 .high, tidy .subtasks)
 
         lu : u < length marks
-        lu = omega (arith, end-small, s .long-marks)
+        lu = omega (arith, u-small, s .long-marks)
 
         high : getD marks u 0 ≡ depth + 2
         high = s .way .end nu .1
@@ -242,11 +245,8 @@ module _ (n : ℕ) (arrows : List (List ℕ)) where
         same : tally new (set marks u 0) n ≡ tally new marks n
         same = omega (arith, tally-set new marks u 0 n (s .way .end nu .0) lu, new-not (getD marks u 0) (λ q. omega (arith, q, high)), new-not 0 (λ q. omega (arith, q)))
 
-        pub shallow : depth < 256
-        shallow = omega (arith, s .room nu, tidy .subtasks)
-
-        pub place-for : m < 256
-        place-for = omega (arith, s .count, fewer, tidy .subtasks)
+        pub end-small : (u < 257) × (depth < 256) × (m < 256)
+        end-small = (u-small, omega (arith, s .room nu, tidy .subtasks), omega (arith, s .count, fewer, tidy .subtasks))
 
         keep : (v : ℕ) → getD marks v 0 ≡ 0 → getD (set marks u 0) v 0 ≡ 0
         keep v z = read-set (λ x. x ≡ 0) marks u 0 v lu (λ _. refl) (λ _. z)
@@ -274,7 +274,7 @@ module _ (n : ℕ) (arrows : List (List ℕ)) where
         }
           where
             lm : m < length row
-            lm = omega (arith, place-for, s .rows .long)
+            lm = omega (arith, end-small .2, s .rows .long)
 
             old : (i : ℕ) → i < m → getD (set row m u) i 0 ≡ getD row i 0
             old i b = getD-set-other row m i u 0 (λ q. omega (arith, q, b))
@@ -336,18 +336,21 @@ module _ (n : ℕ) (arrows : List (List ℕ)) where
           top : Climbs marks (depth - 1) a
           top = rw ea (s .way .climbs (depth - 1) (omega (arith, nd)))
 
-          pub back-inside : (1 ≤ a) × (a - 1 < length arrows) × (a - 1 < 2048)
-          back-inside = (top .some, omega (arith, top .some, top .inside), omega (arith, top .some, top .inside, tidy .few))
+          pub back-small : (1 ≤ a) × (a ≤ 2048)
+          back-small = (top .some, omega (arith, top .inside, tidy .few))
+
+          back-inside : a - 1 < length arrows
+          back-inside = omega (arith, top .some, top .inside)
 
           -- where it comes from is u
           from-u : fromOf arrows (a - 1) ≡ u
-          from-u = s .way .alone (fromOf arrows (a - 1)) u (tidy .from-in (a - 1) (back-inside .1)) (s .way .end nu .0) (omega (arith, top .above)) (omega (arith, top .above, high, nd))
+          from-u = s .way .alone (fromOf arrows (a - 1)) u (tidy .from-in (a - 1) back-inside) (s .way .end nu .0) (omega (arith, top .above)) (omega (arith, top .above, high, nd))
 
           mark-v : getD (set marks u 0) v 0 ≡ depth - 1 + 2
           mark-v = keep-low v (depth - 1 + 2) (omega (arith, nd)) (ap (λ (y : ℕ). getD marks y 0) ev ∙ top .below)
 
           last : Last arrows (toOf arrows (a - 1)) (a - 1) (getD next (a - 1) 0)
-          last = chains .step (a - 1) (back-inside .1)
+          last = chains .step (a - 1) back-inside
 
           here-back : (k : ℕ) → k < length arrows → toOf arrows k ≡ v → getD next (a - 1) 0 ≤ k → getD (set marks u 0) (fromOf arrows k) 0 ≡ 0
           here-back k l e b = go (side a k)
@@ -375,8 +378,8 @@ module _ (n : ℕ) (arrows : List (List ℕ)) where
                 };
                 alone = alone-place;
                 deepest = λ v t. omega (arith, lower v t, nd);
-                end = λ _. (rw ev (tidy .to-in (a - 1) (back-inside .1)), mark-v);
-                none = λ z. absurd (omega (arith, z, ev, tidy .to-in (a - 1) (back-inside .1) .low));
+                end = λ _. (rw ev (tidy .to-in (a - 1) back-inside), mark-v);
+                none = λ z. absurd (omega (arith, z, ev, tidy .to-in (a - 1) back-inside .low));
               };
               passed-by = record {
                 cursor = λ l. (omega (arith, last .within, top .inside), last .here l ∙ sym ev);
@@ -396,20 +399,23 @@ module _ (n : ℕ) (arrows : List (List ℕ)) where
 
       -- ---- the arrow at the cursor, from p
       module _ (nc : c ≢ 0) (p : ℕ) (ep : p ≡ fromOf arrows (c - 1)) where
-        pub at-cursor : (c - 1 < length arrows) × (c - 1 < 2048) × (c < 65536)
-        at-cursor = let w = s .passed-by .cursor (omega (arith, nc)) in (omega (arith, w .0, nc), omega (arith, w .0, nc, tidy .few), omega (arith, w .0, tidy .few))
+        at-cursor : c - 1 < length arrows
+        at-cursor = omega (arith, s .passed-by .cursor (omega (arith, nc)) .0, nc)
 
         p-is : Among 1 n p
-        p-is = rw ep (tidy .from-in (c - 1) (at-cursor .0))
+        p-is = rw ep (tidy .from-in (c - 1) at-cursor)
 
-        pub p-small : p < 257
-        p-small = from-small tidy (c - 1) p (at-cursor .0) ep
+        p-small : p < 257
+        p-small = from-small tidy (c - 1) p at-cursor ep
+
+        pub cursor-small : (p < 257) × (c ≤ 2048)
+        cursor-small = (p-small, omega (arith, at-cursor, tidy .few))
 
         to-u : toOf arrows (c - 1) ≡ u
         to-u = s .passed-by .cursor (omega (arith, nc)) .1
 
         nu : u ≢ 0
-        nu z = omega (arith, z, to-u, tidy .to-in (c - 1) (at-cursor .0) .low)
+        nu z = omega (arith, z, to-u, tidy .to-in (c - 1) at-cursor .low)
 
         -- p is placed
         pub state-skip : getD marks p 0 ≡ 0 → State row marks stack depth m root u (getD next (c - 1) 0) × (left marks root (getD next (c - 1) 0) < left marks root c)
@@ -420,7 +426,7 @@ module _ (n : ℕ) (arrows : List (List ℕ)) where
             long-stack = s .long-stack;
             way = s .way;
             passed-by = record {
-              cursor = λ l. (omega (arith, last .within, at-cursor .0), last .here l ∙ to-u);
+              cursor = λ l. (omega (arith, last .within, at-cursor), last .here l ∙ to-u);
               done = s .passed-by .done;
               here = here';
               waiting = s .passed-by .waiting;
@@ -436,7 +442,7 @@ module _ (n : ℕ) (arrows : List (List ℕ)) where
         )
           where
             last : Last arrows (toOf arrows (c - 1)) (c - 1) (getD next (c - 1) 0)
-            last = chains .step (c - 1) (at-cursor .0)
+            last = chains .step (c - 1) at-cursor
 
             here' : (k : ℕ) → k < length arrows → toOf arrows k ≡ u → getD next (c - 1) 0 ≤ k → getD marks (fromOf arrows k) 0 ≡ 0
             here' k l e b = go (side c k)
@@ -478,7 +484,7 @@ module _ (n : ℕ) (arrows : List (List ℕ)) where
                         }))
                         (rw newest (record {
                           some = omega (arith, nc);
-                          inside = omega (arith, at-cursor .0);
+                          inside = omega (arith, at-cursor);
                           above = ap (λ (y : ℕ). getD marks' y 0) (sym ep) ∙ getD-set-same marks p (depth + 1 + 2) 0 lp ∙ three depth;
                           below = kept-high marks p (depth + 1 + 2) lp isNew two _ (depth + 2) (omega arith) (ap (λ (y : ℕ). getD marks y 0) to-u ∙ s .way .end nu .1);
                         }));
@@ -525,7 +531,7 @@ module _ (n : ℕ) (arrows : List (List ℕ)) where
         state-cycle a b = (p, down (depth - (getD marks p 0 - 2)) u (s .way .end nu .0) (omega (arith, s .way .end nu .1, s .way .deepest p p-is, a, b)) arrive)
           where
             arrive : LeadsTo arrows p u
-            arrive = step (record { place = c - 1; inside = at-cursor .0; begins = sym ep; arrives = to-u })
+            arrive = step (record { place = c - 1; inside = at-cursor; begins = sym ep; arrives = to-u })
 
             -- v lies so many steps above p on the way
             down : (steps v : ℕ) → Among 1 n v → getD marks v 0 ≡ getD marks p 0 + steps → LeadsTo arrows p v → LeadsTo arrows p p

@@ -93,16 +93,18 @@ module _ (times : List ℕ) (arrows : List (List ℕ)) (row : List ℕ) where
       pub entry-small : (1 ≤ v) × (v < 257) × (j < 256)
       entry-small = (entry-is .low, omega (arith, entry-is .high, tidy .subtasks), omega (arith, l, tidy .subtasks))
 
-      module _ (before time : ℕ) (latest : Latest arrows finish v 0 before) (et : time ≡ timeOf times v) (short : time < 65536) where
+      module _ (before : ℕ) (latest : Latest arrows finish v 0 before) where
         before-small : before ≤ 65535 * j
         before-small = ⊎-elim (λ e. omega (arith, e)) (λ r. omega (arith, r .2, w .small (r .0) (from-small tidy (r .1 .place) (r .0) (r .1 .inside) (sym (r .1 .begins))))) (latest .reached)
 
-        pub sum-fits : before + time < 4294967296
-        sum-fits = omega (arith, before-small, short, l, tidy .subtasks)
+        -- a time more still fits
+        pub time-fits : before + 65536 ≤ 4294967296
+        time-fits = omega (arith, before-small, l, tidy .subtasks)
 
-        pub weighed-more : (most' : ℕ) → Larger most (before + time) most' → Weighed (set finish v (before + time)) most' (j + 1)
+        pub weighed-more : (time : ℕ) → (IsSubtask times v → time ≡ timeOf times v) → time < 65536
+            → (most' : ℕ) → Larger most (before + time) most' → Weighed (set finish v (before + time)) most' (j + 1)
         unfolding weight
-        weighed-more most' big = record {
+        weighed-more time told short most' big = record {
           long = length-set finish v (before + time) ∙ w .long;
           upto = omega (arith, l);
           small = λ x b. read-set (λ y. y ≤ 65535 * (j + 1)) finish v (before + time) x lv (λ _. omega (arith, before-small, short)) (λ _. omega (arith, w .small x b));
@@ -124,6 +126,9 @@ module _ (times : List ℕ) (arrows : List (List ℕ)) (row : List ℕ) where
           begins = λ e. absurd (omega (arith, e));
         }
           where
+            et : time ≡ timeOf times v
+            et = told entry-is
+
             finish' : List ℕ
             finish' = set finish v (before + time)
 

@@ -21,8 +21,3 @@ pub record Earlier (a b r : ℕ) : Type 0 where
   pub one : (r ≡ a) ⊎ (r ≡ b)
   pub left : 0 < a → (0 < r) × (r ≤ a)
   pub right : 0 < b → (0 < r) × (r ≤ b)
-
--- r is the position s where the arrow there goes to v, and 0 else
-pub record IfInto (arrows : List (List ℕ)) (v s r : ℕ) : Type 0 where
-  pub stays : 0 < r → (r ≡ s) × (toOf arrows (s - 1) ≡ v)
-  pub there : 0 < s → toOf arrows (s - 1) ≡ v → r ≡ s

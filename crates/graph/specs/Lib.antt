@@ -1,4 +1,5 @@
 pub mod First
+pub mod Faults
 pub mod Chains
 pub mod Ordered
 pub mod Latest

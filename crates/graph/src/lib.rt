@@ -1,12 +1,12 @@
 // Refusals 1 to 7, the order "predecessors first", C and P.
+mod chains;
 mod order;
-mod read;
 mod scan;
 mod weigh;
 
-use crate::order::chain;
+use crate::chains::chain;
 use crate::order::place;
-use crate::scan::first_loop;
+use crate::scan::faults;
 use crate::scan::first_outside;
 use crate::scan::first_repeat;
 use crate::scan::first_zero;
@@ -24,6 +24,7 @@ ghost use lib.ListN.{length, replicate};
 ghost use Rattle.terms.specs.Rows.{Answered};
 ghost use Rattle.terms.specs.Refusals.{graphRows};
 ghost use Rattle.terms.specs.Replies.{IsCheck, IsMeasure, IsTotalWork, IsLongestPath};
+ghost use Rattle.graph.specs.Faults.{WrongEnds};
 ghost use Rattle.graph.specs.Chains.{Chains};
 ghost use Rattle.graph.specs.Ordered.{Ordered};
 
@@ -32,6 +33,13 @@ fn refusal(number: u8) -> Refusal
     ensures { λ r. ⌜ r .number ≡ number ⌝ }
 {
     Refusal { number }
+}
+
+// 4 where an arrow names a subtask outside 1..n, else 5.
+fn wrong_ends(n: usize, arrows: &[[u16; 2]]) -> u8
+    ensures { λ r. ⌜ WrongEnds n (now (arrows .entry)) r ⌝ }
+{
+    if first_outside(n, arrows) != 0 { 4 } else { 5 }
 }
 
 // The number of refusal of a graph; where it is 0, its arrows as chains and its order are left in the three tables.
@@ -59,11 +67,8 @@ fn examine(
     if MOST_ARROWS < arrows.len() {
         return 3;
     }
-    if first_outside(n, arrows) != 0 {
-        return 4;
-    }
-    if first_loop(arrows) != 0 {
-        return 5;
+    if faults(n, arrows) != 0 {
+        return wrong_ends(n, arrows);
     }
     chain(n, arrows, first, next);
     if first_repeat(n, arrows, first, next) != 0 {
@@ -111,14 +116,9 @@ pub fn measure(times: &[u16], arrows: &[[u16; 2]]) -> Measure
 pub fn total_work(times: &[u16], arrows: &[[u16; 2]]) -> Amount
     ensures { λ r. ⌜ IsTotalWork (now (times .entry)) (now (arrows .entry)) r ⌝ }
 {
-    let mut first = [0u16; 257];
-    let mut next = [0u16; 2048];
-    let mut order = [0u16; 256];
-    let number = examine(times, arrows, &mut first, &mut next, &mut order);
-    if number == 0 {
-        Amount::Is(total(times))
-    } else {
-        Amount::Refused(refusal(number))
+    match check(times, arrows) {
+        Check::Refused(refusal) => Amount::Refused(refusal),
+        Check::Sound => Amount::Is(total(times)),
     }
 }
 
@@ -126,13 +126,8 @@ pub fn total_work(times: &[u16], arrows: &[[u16; 2]]) -> Amount
 pub fn longest_path(times: &[u16], arrows: &[[u16; 2]]) -> Amount
     ensures { λ r. ⌜ IsLongestPath (now (times .entry)) (now (arrows .entry)) r ⌝ }
 {
-    let mut first = [0u16; 257];
-    let mut next = [0u16; 2048];
-    let mut order = [0u16; 256];
-    let number = examine(times, arrows, &mut first, &mut next, &mut order);
-    if number == 0 {
-        Amount::Is(longest(times, arrows, &first, &next, &order))
-    } else {
-        Amount::Refused(refusal(number))
+    match measure(times, arrows) {
+        Measure::Refused(refusal) => Amount::Refused(refusal),
+        Measure::Is(weights) => Amount::Is(weights.path),
     }
 }

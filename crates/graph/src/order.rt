@@ -1,28 +1,13 @@
-// The arrows as chains, and the order "predecessors first".
-use crate::read::from_at;
-use crate::read::narrow;
-use crate::read::to_at;
-use crate::read::wide;
+// The order "predecessors first".
+use crate::chains::after;
+use crate::chains::source;
+use crate::chains::start_of;
+use lent::to_at;
+use lent::wide;
 ghost use mathlib.Core.Path.{_≡_};
-ghost use Prim.Native.Nat.{_<_};
-ghost use lib.ListN.{length, replicate};
+ghost use lib.ListN.{length};
 ghost use Rattle.graph.specs.Chains.{Chains, Tidy};
 ghost use Rattle.graph.specs.Ordered.{Placing};
-
-// For each subtask the chain of the arrows into it, the latest first: `first` holds the position of that one, `next` of the one before it.
-pub fn chain(n: usize, arrows: &[[u16; 2]], first: &mut [u16; 257], next: &mut [u16; 2048])
-    requires { ⌜ Tidy n (now arrows) ⌝ }
-    requires { ⌜ (now first ≡ replicate 257 0) × (length (now next) ≡ 2048) ⌝ }
-    ensures { λ _. ⌜ Chains (now (arrows .entry)) (now (first .exit)) (now (next .exit)) (length (now (arrows .entry))) ⌝ }
-{
-    let mut i: usize = 0;
-    while i < arrows.len() {
-        let v = to_at(arrows, i);
-        next[i] = first[v];
-        first[v] = narrow(i + 1);
-        i += 1;
-    }
-}
 
 // Leaves all subtasks in `order`, predecessors first, or answers that the arrows close a cycle. It goes back along the arrows from each
 // subtask in turn. At u, c is the position of the arrow that is looked at; the arrows on the way to u stand on the stack. A mark is 1
@@ -48,22 +33,22 @@ pub fn place(
     let mut c: usize = 0;
     loop {
         if c != 0 {
-            let p = from_at(arrows, c - 1);
+            let p = source(arrows, c);
             let m = mark[p];
             if m == 0 {
-                c = wide(next[c - 1]);
+                c = after(next, c);
             } else if m == 1 {
-                stack[depth] = narrow(c);
+                stack[depth] = c as u16;
                 depth += 1;
-                mark[p] = narrow(depth + 2);
+                mark[p] = (depth + 2) as u16;
                 u = p;
-                c = wide(first[p]);
+                c = start_of(first, p);
             } else {
                 return true;
             }
         } else if u != 0 {
             mark[u] = 0;
-            order[placed] = narrow(u);
+            order[placed] = u as u16;
             placed += 1;
             if depth == 0 {
                 u = 0;
@@ -71,7 +56,7 @@ pub fn place(
                 depth -= 1;
                 let a = wide(stack[depth]);
                 u = to_at(arrows, a - 1);
-                c = wide(next[a - 1]);
+                c = after(next, a);
             }
         } else if root == n {
             return false;
@@ -80,7 +65,7 @@ pub fn place(
             if mark[root] == 1 {
                 mark[root] = 2;
                 u = root;
-                c = wide(first[root]);
+                c = start_of(first, root);
             }
         }
     }

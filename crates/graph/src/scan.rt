@@ -1,14 +1,16 @@
 // Each scan answers the first position, from 1, at which a condition holds, and 0 for none.
-use crate::read::from_at;
-use crate::read::narrow;
-use crate::read::to_at;
-use crate::read::wide;
+use crate::chains::after;
+use crate::chains::source;
+use crate::chains::start_of;
+use lent::from_at;
+use lent::to_at;
+use lent::wide;
 ghost use mathlib.Core.Path.{_≡_};
-ghost use Prim.Native.Nat.{_≤_, _<_};
+ghost use Prim.Native.Nat.{_≤_};
 ghost use lib.ListN.{length, getD};
-ghost use Rattle.terms.specs.Graphs.{fromOf, toOf};
 ghost use Rattle.terms.specs.Refusals.{Repeats};
-ghost use Rattle.graph.specs.First.{First, Outside, Earlier, IfInto};
+ghost use Rattle.graph.specs.First.{First, Outside, Earlier};
+ghost use Rattle.graph.specs.Faults.{FaultOf, Faults};
 ghost use Rattle.graph.specs.Chains.{Chains, Tidy};
 
 // 2: the first time that is 0.
@@ -51,20 +53,42 @@ pub fn first_outside(n: usize, arrows: &[[u16; 2]]) -> usize
     0
 }
 
-// 5: the first arrow from a subtask to itself.
-pub fn first_loop(arrows: &[[u16; 2]]) -> usize
-    ensures { λ r. ⌜ First (length (now (arrows .entry))) (λ a. fromOf (now (arrows .entry)) a ≡ toOf (now (arrows .entry)) a) r ⌝ }
+// 1 where an arrow names a subtask outside 1..most or goes from a subtask to itself, else 0.
+fn fault_of(most: u16, from: u16, to: u16) -> u16
+    ensures { λ r. ⌜ FaultOf most from to r ⌝ }
 {
-    let mut i: usize = 0;
-    while i < arrows.len() {
-        let u = from_at(arrows, i);
-        let v = to_at(arrows, i);
-        i += 1;
-        if u == v {
-            return i;
-        }
+    if from < 1 {
+        return 1;
+    }
+    if most < from {
+        return 1;
+    }
+    if to < 1 {
+        return 1;
+    }
+    if most < to {
+        return 1;
+    }
+    if from == to {
+        return 1;
     }
     0
+}
+
+// 4 and 5: how many such arrows there are. No arrow ends the loop early, so that many arrows are looked at together.
+pub fn faults(n: usize, arrows: &[[u16; 2]]) -> u16
+    requires { ⌜ (n ≤ 256) × (length (now arrows) ≤ 2048) ⌝ }
+    ensures { λ r. ⌜ Faults n (now (arrows .entry)) (length (now (arrows .entry))) r ⌝ }
+{
+    let most = n as u16;
+    let mut count: u16 = 0;
+    let mut i: usize = 0;
+    while i < arrows.len() {
+        let ends = arrows[i];
+        count += fault_of(most, ends[0], ends[1]);
+        i += 1;
+    }
+    count
 }
 
 // The earlier of two positions, of which 0 is none.
@@ -80,24 +104,21 @@ fn earlier(a: usize, b: usize) -> usize
     if a < b { a } else { b }
 }
 
-// Of an arrow that was met last from the same subtask: its position where it goes to v too, else 0.
-fn if_into(arrows: &[[u16; 2]], v: usize, met: usize) -> usize
-    requires { ⌜ met ≤ length (now arrows) ⌝ }
-    ensures { λ r. ⌜ IfInto (now (arrows .entry)) v met r ⌝ }
+// The position that was met last, where it was met in the chain of v, else 0.
+fn met_in(v: usize, seen: u16, met: u16) -> usize
+    ensures { λ r. ⌜ (seen ≡ v → r ≡ met) × (¬ (seen ≡ v) → r ≡ 0) ⌝ }
 {
-    if met == 0 {
-        return 0;
-    }
-    if to_at(arrows, met - 1) == v { met } else { 0 }
+    if wide(seen) == v { wide(met) } else { 0 }
 }
 
 // 6: the first arrow that is the same as one before it. Along the chain of arrows into v, the latest first, met[u] is the position of the
-// arrow from u that was met last: where that goes to v too, it is the same as the present one.
+// arrow from u that was met last, and seen[u] the subtask in whose chain: where that is v, the arrow is the same as the present one.
 pub fn first_repeat(n: usize, arrows: &[[u16; 2]], first: &[u16; 257], next: &[u16; 2048]) -> usize
     requires { ⌜ Tidy n (now arrows) ⌝ }
     requires { ⌜ Chains (now arrows) (now first) (now next) (length (now arrows)) ⌝ }
     ensures { λ r. ⌜ First (length (now (arrows .entry))) (Repeats (now (arrows .entry))) r ⌝ }
 {
+    let mut seen = [0u16; 257];
     let mut met = [0u16; 257];
     let mut found: usize = 0;
     let mut v: usize = 0;
@@ -108,13 +129,14 @@ pub fn first_repeat(n: usize, arrows: &[[u16; 2]], first: &[u16; 257], next: &[u
                 return found;
             }
             v += 1;
-            c = wide(first[v]);
+            c = start_of(first, v);
         } else {
-            let u = from_at(arrows, c - 1);
-            let same = if_into(arrows, v, wide(met[u]));
+            let u = source(arrows, c);
+            let same = met_in(v, seen[u], met[u]);
             found = earlier(found, same);
-            met[u] = narrow(c);
-            c = wide(next[c - 1]);
+            seen[u] = v as u16;
+            met[u] = c as u16;
+            c = after(next, c);
         }
     }
 }

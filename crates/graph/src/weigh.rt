@@ -1,10 +1,12 @@
 // C and P.
-use crate::read::from_at;
-use crate::read::long;
-use crate::read::time_of;
-use crate::read::wide;
+use crate::chains::after;
+use crate::chains::source;
+use crate::chains::start_of;
+use lent::long;
+use lent::time_of;
+use lent::wide;
 ghost use mathlib.Core.Path.{_≡_};
-ghost use Prim.Native.Nat.{_+_, _-_, _≤_, _<_};
+ghost use Prim.Native.Nat.{_≤_, _<_};
 ghost use lib.ListN.{length};
 ghost use Rattle.terms.specs.Paths.{totalWork, IsLongest};
 ghost use Rattle.graph.specs.Chains.{Chains, Tidy, Larger};
@@ -45,11 +47,11 @@ fn latest(
     ensures { λ r. ⌜ Latest (now (arrows .entry)) (now (finish .entry)) v 0 r ⌝ }
 {
     let mut most: u32 = 0;
-    let mut c = wide(first[v]);
+    let mut c = start_of(first, v);
     while c != 0 {
-        let p = from_at(arrows, c - 1);
+        let p = source(arrows, c);
         most = larger(most, finish[p]);
-        c = wide(next[c - 1]);
+        c = after(next, c);
     }
     most
 }
@@ -73,7 +75,8 @@ pub fn longest(
     while j < times.len() {
         let v = wide(order[j]);
         let before = latest(times.len(), v, arrows, first, next, &finish);
-        let f = before + time_of(times, v);
+        let time = time_of(times, v);
+        let f = before + time;
         finish[v] = f;
         most = larger(most, f);
         j += 1;

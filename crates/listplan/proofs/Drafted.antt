@@ -44,15 +44,15 @@ module _ (times : List ℕ) (arrows : List (List ℕ)) (M : ℕ) (order P S : Li
         total-small g bits,
       )
 
-  pub drawn : (T : List Entry) (n E F : ℕ) → take (length P) T ≡ entries P S → BlankFrom T (length P) → n ≡ length times → F ≡ E → E ≡ lastEnd times S
-      → IsDrawn times arrows M order (record { reply = planEnd.Ends F; entries = T; n = n })
-  drawn T n E F front blank c f e =
+  pub drawn : (T : List Entry) (n E : ℕ) → take (length P) T ≡ entries P S → BlankFrom T (length P) → n ≡ length times → E ≡ lastEnd times S
+      → IsDrawn times arrows M order (record { reply = planEnd.Ends E; entries = T; n = n })
+  drawn T n E front blank c e =
       let q : length P ≡ n = z .processors ∙ sym c in
       let front′ : take n T ≡ entries P S = rw q at front in
       record {
-        end = F;
+        end = E;
         reply = refl;
-        holds = record { count = c; plan = rw front′ plan; ends = rw (front′, f, e) ends };
+        holds = record { count = c; plan = rw front′ plan; ends = rw (front′, e) ends };
         table = rw q at blank;
       }
 

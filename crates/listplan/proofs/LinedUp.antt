@@ -13,13 +13,13 @@ use Rattle.listplan.proofs.Items.{read-noughts}
 pub ranks-none : (order rank : List ℕ) → length rank ≡ 257 → Ranks order rank 0
 ranks-none order rank e = record { long = e; stands = λ x l. absurd (omega arith) }
 
-pub ranks-more : (order rank : List ℕ) (x s k : ℕ) → Distinct order → x < length order → s ≡ getD order x 0 → k ≡ x → Ranks order rank x → Ranks order (set rank s k) (x + 1)
-ranks-more order rank x s k d l e f h =
+pub ranks-more : (order rank : List ℕ) (x s : ℕ) → Distinct order → x < length order → s ≡ getD order x 0 → Ranks order rank x → Ranks order (set rank s x) (x + 1)
+ranks-more order rank x s d l e h =
     let room : s < length rank = omega (arith, h .long, d .small x l) in
     record {
-      long = length-set rank s k ∙ h .long;
-      stands = λ y m. read-set (λ z. z ≡ y) rank s k (getD order y 0) room
-          (λ q. by-cases (ℕ-discrete y x) (λ z. f ∙ sym z) (λ z. absurd (d .once y x (omega arith) l (q ∙ e))))
+      long = length-set rank s x ∙ h .long;
+      stands = λ y m. read-set (λ z. z ≡ y) rank s x (getD order y 0) room
+          (λ q. by-cases (ℕ-discrete y x) (λ z. sym z) (λ z. absurd (d .once y x (omega arith) l (q ∙ e))))
           (λ q. by-cases (ℕ-discrete y x) (λ z. absurd (q (ap (λ (w : ℕ). getD order w 0) z ∙ sym e))) (λ z. h .stands y (omega arith)));
     }
 

@@ -15,7 +15,7 @@ use Rattle.theory.proofs.Clock.{jump}
 use Rattle.entries.specs.Entries.{entries, itemOf}
 use Rattle.entries.proofs.Entered.{entries-processor, entries-end, entries-none}
 use Rattle.listplan.specs.Tables.{Tally, Sources, Grouped}
-use Rattle.listplan.specs.Making.{never, Job, Unended, waits, runs, Holding, unended, Making, AllBusy, Soonest, FirstDue, Turn}
+use Rattle.listplan.specs.Making.{never, Job, Unended, waits, runs, Holding, unended, Making, NoneMarked, AllBusy, Soonest, FirstDue, Turn}
 use Rattle.listplan.proofs.Items.{read-noughts}
 use Rattle.listplan.proofs.Counts.{count-same, count-none, count-some}
 use Rattle.listplan.proofs.Ready.{in-range, still-there}
@@ -71,8 +71,8 @@ module _ (times : List ℕ) (arrows : List (List ℕ)) (order : List ℕ) (M : �
           at,
         )
 
-    pub moved : (G : List ℕ) (p′ q : ℕ) → Grouped R G → FirstDue U M e p′ → AllBusy W M q → Turn times arrows order M e 0 L R G U W P S p′ q
-    moved G p′ q g d a = record {
+    pub moved : (G : List ℕ) (p′ q low : ℕ) → Grouped R G → NoneMarked R (length order) low → FirstDue U M e p′ → AllBusy W M q → Turn times arrows order M e 0 L R G U W P S p′ q low
+    moved G p′ q low g u d a = record {
       making = record {
         sizes = mk .sizes;
         early = no-later;
@@ -91,6 +91,7 @@ module _ (times : List ℕ) (arrows : List (List ℕ)) (order : List ℕ) (M : �
         blocked = mk .blocked;
       };
       grouped = g;
+      unmarked = u;
       due = d;
       busy = a;
     }
@@ -167,10 +168,11 @@ begins times arrows order M first next rank L R P S job tally sources e f = reco
     small y l = omega (arith, job .isOrder .each y l .high, job .graph .count .high)
 
 pub first-turn : (times : List ℕ) (arrows : List (List ℕ)) (order : List ℕ) (M : ℕ) (L R G P S : List ℕ) → M ≤ 16
-    → Making times arrows order M 0 0 L R (replicate 16 never) (replicate 16 0) P S → Grouped R G → Turn times arrows order M 0 0 L R G (replicate 16 never) (replicate 16 0) P S M 0
+    → Making times arrows order M 0 0 L R (replicate 16 never) (replicate 16 0) P S → Grouped R G → Turn times arrows order M 0 0 L R G (replicate 16 never) (replicate 16 0) P S M 0 0
 first-turn times arrows order M L R G P S most mk g = record {
   making = mk;
   grouped = g;
+  unmarked = record { within = omega arith; none = λ y l. absurd (omega arith) };
   due = record {
     before = record {
       within = omega arith;

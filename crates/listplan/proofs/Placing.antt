@@ -15,6 +15,7 @@ use Rattle.listplan.specs.Making.{never, Job, Unended, waits, runs, Hold
 use Rattle.graph.proofs.Stores.{read-set}
 use Rattle.listplan.proofs.Items.{item-same, item-other, finish-same, finish-other}
 use Rattle.listplan.proofs.Counts.{count-same}
+use Rattle.listplan.proofs.Scanned.{unmarked-low}
 use Rattle.listplan.proofs.Ready.{open-ready, is-free, is-busy, ready-open}
 
 -- the subtask at place x of the order goes to processor q, counted from 0
@@ -167,7 +168,7 @@ module _ (times : List ℕ) (arrows : List (List ℕ)) (order : List ℕ) (M : �
         (λ h. mk .marks .marked y l (open-back (getD order y 0) (job .isOrder .each y l) (other y l h) o));
   }
 
-  pub placed : (G : List ℕ) (p : ℕ) → Grouped R′ G → p ≡ M → Turn times arrows order M t 0 L R′ G U′ W′ P′ S′ p q
+  pub placed : (G : List ℕ) (p : ℕ) → Grouped R′ G → p ≡ M → Turn times arrows order M t 0 L R′ G U′ W′ P′ S′ p q (x + 1)
   placed G p g pm = record {
     making = record {
       sizes = record { processors = length-set P (j - 1) _ ∙ mk .sizes .processors; starts = length-set S (j - 1) _ ∙ mk .sizes .starts };
@@ -186,6 +187,7 @@ module _ (times : List ℕ) (arrows : List (List ℕ)) (order : List ℕ) (M : �
           po (toOf arrows a) (job .graph .named a l .1) d ∙ mk .blocked a l b;
     };
     grouped = g;
+    unmarked = unmarked-low in-ready inside (fm .before);
     due = record {
       before = record {
         within = omega arith;

@@ -9,7 +9,7 @@ use lib.ListN.{length, getD, set, length-set}
 use Rattle.terms.specs.Graphs.{IsSubtask, fromOf}
 use Rattle.entries.specs.Entries.{itemOf, finishOf}
 use Rattle.listplan.specs.Tables.{LastFrom, Grouped}
-use Rattle.listplan.specs.Making.{never, Job, Unended, waits, runs, Holding, unended, uncounted, Making, NoneDue, FirstDue, Turn}
+use Rattle.listplan.specs.Making.{never, Job, Unended, waits, runs, Holding, unended, uncounted, Making, NoneMarked, NoneDue, FirstDue, Turn}
 use Rattle.graph.proofs.Stores.{read-set}
 use Rattle.listplan.proofs.Counts.{count-same}
 
@@ -78,8 +78,8 @@ module _ (times : List ℕ) (arrows : List (List ℕ)) (order : List ℕ) (M : �
     back a l (unended u) = unended (unended-back (fromOf arrows a) (job .graph .named a l .0) u)
     back a l (uncounted m e) = unended (rw (e ∙ last .here (omega arith)) there)
 
-    pub released : (G : List ℕ) (p′ : ℕ) → Grouped R G → FirstDue U′ M t p′ → Turn times arrows order M t c L R G U′ W′ P S p′ 0
-    released G p′ g o = record {
+    pub released : (G : List ℕ) (p′ low : ℕ) → Grouped R G → NoneMarked R (length order) low → FirstDue U′ M t p′ → Turn times arrows order M t c L R G U′ W′ P S p′ 0 low
+    released G p′ low g u o = record {
       making = record {
         sizes = mk .sizes;
         early = mk .early;
@@ -113,6 +113,7 @@ module _ (times : List ℕ) (arrows : List (List ℕ)) (order : List ℕ) (M : �
         blocked = λ a l h. mk .blocked a l (back a l h);
       };
       grouped = g;
+      unmarked = u;
       due = o;
       busy = record { within = omega arith; busy = λ k l. absurd (omega arith) };
     }

@@ -16,8 +16,8 @@ use Rattle.listplan.specs.Making.{never, NoneMarked, FirstMarked, AllBus
 pub record Passed (R : List ℕ) (x : ℕ) : Type 0 where
   pub none : (y : ℕ) → y < x → y < 256 → getD R y 0 ≢ 1
 
-pub passed-none : (R : List ℕ) → Passed R 0
-passed-none R = record { none = λ y l. absurd (omega arith) }
+pub passed-low : {R : List ℕ} {n low : ℕ} → NoneMarked R n low → Passed R low
+passed-low h = record { none = λ y l _. h .none y l }
 
 pub passed-more : {R : List ℕ} {x : ℕ} → Passed R x → getD R x 0 ≢ 1 → Passed R (x + 1)
 passed-more {R} {x} h d = record { none = λ y l m. by-cases (ℕ-discrete y x) (λ e. rw e d) (λ e. h .none y (omega arith) m) }
@@ -34,6 +34,20 @@ first-marked-here b l h e = record { before = record { within = omega arith; non
 
 pub first-marked-none : {R : List ℕ} {n x : ℕ} → n ≤ 256 → n ≤ x → Passed R x → FirstMarked R n n
 first-marked-none b l h = record { before = record { within = omega arith; none = λ y m. h .none y (omega arith) (omega arith) }; here = λ m. absurd (omega arith) }
+
+-- place x is marked
+pub marked-low : {R : List ℕ} {n low x : ℕ} → x < length R → NoneMarked R n low → NoneMarked (set R x 1) n (min low x)
+marked-low {R} {n} {low} {x} l h = record {
+  within = omega (arith, h .within);
+  none = λ y m. read-set (λ k. k ≢ 1) R x 1 y l (λ e. absurd (omega arith)) (λ _. h .none y (omega arith));
+}
+
+-- the mark of the first place that has one was taken off
+pub unmarked-low : {R : List ℕ} {n x : ℕ} → x < length R → x < n → NoneMarked R n x → NoneMarked (set R x 0) n (x + 1)
+unmarked-low {R} {n} {x} l b h = record {
+  within = omega arith;
+  none = λ y m. read-set (λ k. k ≢ 1) R x 0 y l (λ _ f. omega arith) (λ d. h .none y (omega arith));
+}
 
 -- a mark was taken off place x; up to y of its group there is no other after it
 pub record Unmarking (R : List ℕ) (x y : ℕ) : Type 0 where

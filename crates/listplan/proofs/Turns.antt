@@ -25,26 +25,25 @@ unfoldable pub toDo : List ℕ → ℕ → List ℕ → List ℕ → List ℕ �
 toDo times t L W P = (totalWork times - t) + 2 * noughts P + (16 - noughts W) + totalWork L
 
 module _ (times : List ℕ) (arrows : List (List ℕ)) (order : List ℕ) (M : ℕ) (first next rank : List ℕ) (job : Job times arrows order M first next rank)
-    (t c : ℕ) (L R G U W P S : List ℕ) (p q : ℕ) (turn : Turn times arrows order M t c L R G U W P S p q) where
-  pub turn-counted : (c′ : ℕ) (L′ R′ G′ : List ℕ) → c ≢ 0 → c′ ≡ getD next (c - 1) 0 → CountedOff arrows rank L R G L′ R′ G′ (c - 1)
-      → Turn times arrows order M t c′ L′ R′ G′ U W P S p q × (toDo times t L′ W P < toDo times t L W P)
+    (t c : ℕ) (L R G U W P S : List ℕ) (p q low : ℕ) (turn : Turn times arrows order M t c L R G U W P S p q low) where
+  pub turn-counted : (c′ low′ : ℕ) (L′ R′ G′ : List ℕ) → c ≢ 0 → c′ ≡ getD next (c - 1) 0 → CountedOff arrows rank L R G L′ R′ G′ (c - 1) low low′
+      → Turn times arrows order M t c′ L′ R′ G′ U W P S p q low′ × (toDo times t L′ W P < toDo times t L W P)
   unfolding toDo
-  turn-counted c′ L′ R′ G′ h e off =
+  turn-counted c′ low′ L′ R′ G′ h e off =
       let mk = turn .making in
-      let r = counted times arrows order M first next rank job t c L R U W P S mk h c′ e G L′ R′ G′ off (turn .grouped) in
+      let r = counted times arrows order M first next rank job t c L R U W P S mk h c′ e G L′ R′ G′ low low′ off (turn .grouped) (turn .unmarked) in
       let s = to-subtask times arrows order M first next rank job t c L R U W P S mk h in
       let one = left-some times arrows order M first next rank job t c L R U W P S mk h in
       let sum : totalWork L′ + getD L (toOf arrows (c - 1)) 0 ≡ totalWork L + (getD L (toOf arrows (c - 1)) 0 - 1) =
       rw (off .fewer) (total-set L (toOf arrows (c - 1)) _ (omega (arith, mk .lefts .long, s .high, job .graph .count .high))) in
-      (record { making = r .0; grouped = r .1; due = turn .due; busy = turn .busy }, omega (arith, one, sum))
+      (record { making = r .0; grouped = r .1; unmarked = r .2; due = turn .due; busy = turn .busy }, omega (arith, one, sum))
 
   -- an arrow can be counted off
   pub may-count : c ≢ 0
-      → (c - 1 < length arrows) × (toOf arrows (c - 1) < 257) × (1 ≤ getD L (toOf arrows (c - 1)) 0) × (getD rank (toOf arrows (c - 1)) 0 < 256)
+      → (toOf arrows (c - 1) < 257) × (1 ≤ getD L (toOf arrows (c - 1)) 0) × (getD rank (toOf arrows (c - 1)) 0 < 256)
   may-count h =
       let mk = turn .making in
       let s = to-subtask times arrows order M first next rank job t c L R U W P S mk h in (
-        omega (arith, mk .cursor .within),
         omega (arith, s .high, job .graph .count .high),
         left-some times arrows order M first next rank job t c L R U W P S mk h,
         omega (arith, rank-inside times arrows order M first next rank job t c L R U W P S mk h, job .isOrder .whole, job .graph .count .high),
@@ -67,12 +66,12 @@ module _ (times : List ℕ) (arrows : List (List ℕ)) (order : List ℕ) (M : �
       next-due = due-after times arrows order M first next rank job t L R U W P S mk p pm due (turn .due)
 
       pub turn-released : (i c′ p′ : ℕ) → i ≡ getD W p 0 → c′ ≡ getD first i 0 → FirstDue (set U p never) M t p′
-          → Turn times arrows order M t c′ L R G (set U p never) (set W p 0) P S p′ 0 × (toDo times t L (set W p 0) P < toDo times t L W P)
+          → Turn times arrows order M t c′ L R G (set U p never) (set W p 0) P S p′ 0 low × (toDo times t L (set W p 0) P < toDo times t L W P)
       unfolding toDo
       turn-released i c′ p′ d e o =
           let b = somebody times arrows order M first next rank job t L R U W P S mk p pm due in
           let n = noughts-emptied W p (omega (arith, mk .holders .long-who, job .processors .high)) b in (
-            released times arrows order M first next rank job t L R U W P S mk p pm due c′ (rw d at e) G p′ (turn .grouped) o,
+            released times arrows order M first next rank job t L R U W P S mk p pm due c′ (rw d at e) G p′ low (turn .grouped) (turn .unmarked) o,
             omega (arith, n, noughts-most (set W p 0), length-set W p 0, mk .holders .long-who),
           )
 
@@ -90,7 +89,7 @@ module _ (times : List ℕ) (arrows : List (List ℕ)) (order : List ℕ) (M : �
 
       pub turn-placed : (j : ℕ) (R′ G′ P′ S′ U′ W′ : List ℕ) → (R′ ≡ set R x 0) × Grouped R′ G′ → x < length order → j ≡ getD order x 0
           → P′ ≡ set P (j - 1) (q′ + 1) → S′ ≡ set S (j - 1) t → U′ ≡ set U q′ (t + timeOf times j) → W′ ≡ set W q′ j
-          → Turn times arrows order M t c L R′ G′ U′ W′ P′ S′ p q′ × (toDo times t L W′ P′ < toDo times t L W P)
+          → Turn times arrows order M t c L R′ G′ U′ W′ P′ S′ p q′ (x + 1) × (toDo times t L W′ P′ < toDo times t L W P)
       unfolding toDo itemOf
       turn-placed j R′ G′ P′ S′ U′ W′ g l e ep es eu ew =
           let s : IsSubtask times j = rw e (job .isOrder .each x l) in
@@ -111,10 +110,10 @@ module _ (times : List ℕ) (arrows : List (List ℕ)) (order : List ℕ) (M : �
         quiet : ¬ IdleAt times arrows M (entries P S) t
         quiet = still times arrows order M first next rank job t 0 L R U W P S mk later refl x q′ go ff h
 
-        pub turn-moved : (p′ : ℕ) → e ≢ never → FirstDue U M e p′ → Turn times arrows order M e c L R G U W P S p′ q′ × (toDo times e L W P < toDo times t L W P)
+        pub turn-moved : (p′ : ℕ) → e ≢ never → FirstDue U M e p′ → Turn times arrows order M e c L R G U W P S p′ q′ low × (toDo times e L W P < toDo times t L W P)
         unfolding toDo
         turn-moved p′ d f = rw none (
-          moved times arrows order M first next rank job t L R U W P S mk later quiet e o d G p′ q′ (turn .grouped) f (ff .before),
+          moved times arrows order M first next rank job t L R U W P S mk later quiet e o d G p′ q′ low (turn .grouped) (turn .unmarked) f (ff .before),
           omega (
             arith,
             ahead times arrows order M first next rank job t L R U W P S mk later quiet e o d,

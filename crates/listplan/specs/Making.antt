@@ -3,7 +3,7 @@
 use mathlib.Core.Path.{_≡_}
 use mathlib.Core.Logic.{_≢_}
 use mathlib.Core.List.{List}
-use Prim.Native.Nat.{ℕ, _+_, _-_, _≤_, _<_}
+use Prim.Native.Nat.{ℕ, _+_, _-_, _≤_, _<_, min}
 use lib.ListN.{length, getD, set}
 use Rattle.terms.specs.Graphs.{Among, IsSubtask, fromOf, toOf}
 use Rattle.terms.specs.Paths.{totalWork}
@@ -123,13 +123,17 @@ pub record FirstDue (U : List ℕ) (M t p : ℕ) : Type 0 where
   pub here : p < M → getD U p 0 ≤ t
 
 -- what holds at each turn of the loop that makes the plan
-pub record Turn (times : List ℕ) (arrows : List (List ℕ)) (order : List ℕ) (M t c : ℕ) (L R G U W P S : List ℕ) (p q : ℕ) : Type 0 where
+pub record Turn (times : List ℕ) (arrows : List (List ℕ)) (order : List ℕ) (M t c : ℕ) (L R G U W P S : List ℕ) (p q low : ℕ) : Type 0 where
   pub making : Making times arrows order M t c L R U W P S
   pub grouped : Grouped R G
+  pub unmarked : NoneMarked R (length order) low
   pub due : FirstDue U M t p
   pub busy : AllBusy W M q
 
--- the arrow at place a is counted off: one fewer holds its `to` back, and where it was the last one, the place of `to` in the order is marked
-pub record CountedOff (arrows : List (List ℕ)) (rank L R G L′ R′ G′ : List ℕ) (a : ℕ) : Type 0 where
+-- The arrow at place a is counted off: one fewer holds its `to` back, and where it was the last one, the place of `to` in the order is marked.
+-- low′ is the smaller of low and the place that was marked.
+pub record CountedOff (arrows : List (List ℕ)) (rank L R G L′ R′ G′ : List ℕ) (a low low′ : ℕ) : Type 0 where
   pub fewer : L′ ≡ set L (toOf arrows a) (getD L (toOf arrows a) 0 - 1)
   pub marked : MarkedIf (getD L (toOf arrows a) 0 - 1) R G R′ G′ (getD rank (toOf arrows a) 0)
+  pub lower : getD L (toOf arrows a) 0 - 1 ≡ 0 → low′ ≡ min low (getD rank (toOf arrows a) 0)
+  pub kept : getD L (toOf arrows a) 0 - 1 ≢ 0 → low′ ≡ low

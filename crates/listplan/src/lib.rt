@@ -7,10 +7,10 @@ mod scan;
 mod table;
 
 use crate::order::is_order;
-use crate::read::index;
 use crate::table::blank;
 use crate::table::draw;
 use graph::check;
+use lent::index;
 use terms::Check;
 use terms::Entry;
 use terms::MOST_PROCESSORS;
@@ -29,22 +29,15 @@ pub struct Draft {
     pub n: usize,
 }
 
-// A refusal writes nothing.
-fn refused(refusal: Refusal) -> Draft
-    ensures { λ r. ⌜ (r .reply ≡ planEnd.Refused refusal) × (r .n ≡ 0) × (r .entries ≡ replicate 256 notPlaced) ⌝ }
+// The one place where a refusal is made here: it writes nothing.
+fn refused(number: u8) -> Draft
+    ensures { λ r. ⌜ (r .reply ≡ planEnd.Refused (record { number = number })) × (r .n ≡ 0) × (r .entries ≡ replicate 256 notPlaced) ⌝ }
 {
     Draft {
-        reply: PlanEnd::Refused(refusal),
+        reply: PlanEnd::Refused(Refusal { number }),
         entries: blank(),
         n: 0,
     }
-}
-
-// The one place where a refusal is made here.
-fn refused_by(number: u8) -> Draft
-    ensures { λ r. ⌜ (r .reply ≡ planEnd.Refused (record { number = number })) × (r .n ≡ 0) × (r .entries ≡ replicate 256 notPlaced) ⌝ }
-{
-    refused(Refusal { number })
 }
 
 // The list plan on m processors in an order, for a lent row of `room` entries.
@@ -52,21 +45,21 @@ pub fn draft_plan(times: &[u16], arrows: &[[u16; 2]], m: u32, order: &[u16], roo
     ensures { λ r. ⌜ IsDraft (now (times .entry)) (now (arrows .entry)) m (now (order .entry)) room r ⌝ }
 {
     match check(times, arrows) {
-        Check::Refused(refusal) => return refused(refusal),
+        Check::Refused(refusal) => return refused(refusal.number),
         Check::Sound => {}
     }
     if m < 1 {
-        return refused_by(8);
+        return refused(8);
     }
     if MOST_PROCESSORS < m {
-        return refused_by(8);
+        return refused(8);
     }
     if !is_order(times, order) {
-        return refused_by(10);
+        return refused(10);
     }
     let n = times.len();
     if room < n {
-        return refused_by(11);
+        return refused(11);
     }
     let mut procs = [0u8; 256];
     let mut starts = [0u32; 256];

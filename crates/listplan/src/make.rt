@@ -2,17 +2,16 @@
 use crate::prepare::chain;
 use crate::prepare::line_up;
 use crate::prepare::mark;
-use crate::read::arrow_at;
 use crate::read::at_place;
-use crate::read::narrow;
-use crate::read::time_of;
-use crate::read::wide;
 use crate::scan::NEVER;
 use crate::scan::first_due;
 use crate::scan::first_free;
 use crate::scan::next_to_go;
 use crate::scan::soonest;
 use crate::scan::unmark;
+use lent::time_of;
+use lent::to_at;
+use lent::wide;
 ghost use mathlib.Core.Path.{_≡_};
 ghost use Prim.Native.Nat.{_+_, _-_, _≤_, _<_};
 ghost use lib.ListN.{length, getD, set, replicate};
@@ -24,7 +23,7 @@ ghost use Rattle.entries.specs.Entries.{entries};
 ghost use Rattle.listplan.specs.Tables.{Grouped};
 ghost use Rattle.listplan.specs.Making.{never, Job, Sizes, Making, CountedOff};
 
-// Counts off the arrow at a place of the row.
+// Counts off the arrow at a place of the row. No place of the order below `low` is marked; the answer is a place below which none is now.
 fn count_off(
     arrows: &[[u16; 2]],
     rank: &[u16; 257],
@@ -32,17 +31,25 @@ fn count_off(
     ready: &mut [u8; 256],
     groups: &mut [u8; 16],
     place: usize,
-)
-    requires { ⌜ (place < length (now arrows)) × (toOf (now arrows) place < 257) ⌝ }
+    low: usize,
+) -> usize
+    requires { ⌜ toOf (now arrows) place < 257 ⌝ }
     requires { ⌜ (length (now rank) ≡ 257) × (length (now left) ≡ 257) × (length (now ready) ≡ 256) × (length (now groups) ≡ 16) ⌝ }
     requires { ⌜ (1 ≤ getD (now left) (toOf (now arrows) place) 0) × (getD (now rank) (toOf (now arrows) place) 0 < 256) ⌝ }
-    ensures { λ _. ⌜ CountedOff (now (arrows .entry)) (now (rank .entry)) (now (left .entry)) (now (ready .entry)) (now (groups .entry)) (now (left .exit)) (now (ready .exit)) (now (groups .exit)) place ⌝ }
+    ensures { λ r. ⌜ CountedOff (now (arrows .entry)) (now (rank .entry)) (now (left .entry)) (now (ready .entry)) (now (groups .entry)) (now (left .exit)) (now (ready .exit)) (now (groups .exit)) place low r ⌝ }
 {
-    let arrow = arrow_at(arrows, place);
-    let s = wide(arrow.to.0);
+    let s = to_at(arrows, place);
     let rest = left[s] - 1;
     left[s] = rest;
-    mark(ready, groups, wide(rank[s]), rest);
+    if rest != 0 {
+        return low;
+    }
+    let x = wide(rank[s]);
+    mark(ready, groups, x, rest);
+    if low < x {
+        return low;
+    }
+    x
 }
 
 // The subtask goes to processor q, counted from 0, at t.
@@ -64,12 +71,12 @@ fn seat(
     procs[subtask - 1] = (q + 1) as u8;
     starts[subtask - 1] = t;
     until[q] = t + time_of(times, subtask);
-    who[q] = narrow(subtask);
+    who[q] = subtask as u16;
 }
 
 // Makes the list plan in the two rows. At t each subtask that ends (p is the first processor with one) leaves its processor, and its arrows
 // are counted off (c is the position of the next one); then whatever can go goes; then the clock moves to the soonest end. No
-// processor below q is free.
+// processor below q is free, and no place of the order below `low` is marked.
 fn run(
     times: &[u16],
     arrows: &[[u16; 2]],
@@ -95,9 +102,10 @@ fn run(
     let mut c: usize = 0;
     let mut p = m;
     let mut q: usize = 0;
+    let mut low: usize = 0;
     loop {
         if c != 0 {
-            count_off(arrows, rank, left, ready, groups, c - 1);
+            low = count_off(arrows, rank, left, ready, groups, c - 1, low);
             c = wide(next[c - 1]);
             continue;
         }
@@ -110,11 +118,12 @@ fn run(
             continue;
         }
         q = first_free(&who, m, q);
-        let x = next_to_go(ready, groups, order.len(), q, m);
+        let x = next_to_go(ready, groups, low, order.len(), q, m);
         if x < order.len() {
             let j = at_place(order, x);
             seat(times, procs, starts, &mut until, &mut who, j, q, t);
             unmark(ready, groups, x);
+            low = x + 1;
             continue;
         }
         t = soonest(&until, m);

@@ -1,8 +1,7 @@
 // The tables that are made once for a list plan.
-use crate::read::arrow_at;
 use crate::read::at_place;
-use crate::read::narrow;
-use crate::read::wide;
+use lent::from_at;
+use lent::to_at;
 ghost use mathlib.Core.Path.{_≡_};
 ghost use Prim.Native.Nat.{_<_};
 ghost use lib.ListN.{length, replicate};
@@ -23,11 +22,10 @@ pub fn chain(
 {
     let mut i: usize = 0;
     while i < arrows.len() {
-        let arrow = arrow_at(arrows, i);
-        let u = wide(arrow.from.0);
-        let v = wide(arrow.to.0);
+        let u = from_at(arrows, i);
+        let v = to_at(arrows, i);
         next[i] = first[u];
-        first[u] = narrow(i + 1);
+        first[u] = (i + 1) as u16;
         left[v] += 1;
         i += 1;
     }
@@ -61,7 +59,7 @@ pub fn line_up(
     let mut x: usize = 0;
     while x < order.len() {
         let s = at_place(order, x);
-        rank[s] = narrow(x);
+        rank[s] = x as u16;
         mark(ready, groups, x, left[s]);
         x += 1;
     }

@@ -60,12 +60,13 @@ pub fn first_free(who: &[u16; 16], m: usize, from: usize) -> usize
     q
 }
 
-// The first place of the order that is marked; n where there is none. Groups of sixteen places with a 0 are passed over.
-fn first_marked(ready: &[u8; 256], groups: &[u8; 16], n: usize) -> usize
-    requires { ⌜ (n ≤ 256) × (length (now ready) ≡ 256) × Grouped (now ready) (now groups) ⌝ }
+// The first place of the order that is marked; n where there is none. Those below `low` are known not to be; groups of sixteen places with
+// a 0 are passed over.
+fn first_marked(ready: &[u8; 256], groups: &[u8; 16], low: usize, n: usize) -> usize
+    requires { ⌜ (n ≤ 256) × (length (now ready) ≡ 256) × Grouped (now ready) (now groups) × NoneMarked (now ready) n low ⌝ }
     ensures { λ r. ⌜ FirstMarked (now (ready .entry)) n r ⌝ }
 {
-    let mut x: usize = 0;
+    let mut x = low;
     while x < n {
         if groups[x / 16] == 0 {
             x = x / 16 * 16 + 16;
@@ -79,14 +80,21 @@ fn first_marked(ready: &[u8; 256], groups: &[u8; 16], n: usize) -> usize
 }
 
 // The place of the order whose subtask goes next, to processor q; n where there is no such place, or no processor.
-pub fn next_to_go(ready: &[u8; 256], groups: &[u8; 16], n: usize, q: usize, m: usize) -> usize
-    requires { ⌜ (n ≤ 256) × (length (now ready) ≡ 256) × Grouped (now ready) (now groups) ⌝ }
+pub fn next_to_go(
+    ready: &[u8; 256],
+    groups: &[u8; 16],
+    low: usize,
+    n: usize,
+    q: usize,
+    m: usize,
+) -> usize
+    requires { ⌜ (n ≤ 256) × (length (now ready) ≡ 256) × Grouped (now ready) (now groups) × NoneMarked (now ready) n low ⌝ }
     ensures { λ r. ⌜ ToGo (now (ready .entry)) m q n r ⌝ }
 {
     if m <= q {
         return n;
     }
-    first_marked(ready, groups, n)
+    first_marked(ready, groups, low, n)
 }
 
 // Takes the mark off the first place that has one.

@@ -42,14 +42,6 @@ fn join(procs: &[u8], starts: &[u32]) -> [Entry; 256]
     table
 }
 
-// A plan's end, which is at most 16,776,960.
-fn short(end: u64) -> u32
-    requires { ⌜ end ≤ 16776960 ⌝ }
-    ensures { λ r. ⌜ r ≡ end ⌝ }
-{
-    end as u32
-}
-
 // The list plan, made in two rows of noughts.
 pub fn draw(
     times: &[u16],
@@ -64,7 +56,7 @@ pub fn draw(
     ensures { λ r. ⌜ IsDrawn (now (times .entry)) (now (arrows .entry)) m (now (order .entry)) r ⌝ }
 {
     lay_out(times, arrows, m, order, procs, starts);
-    let end = short(last_end(times, starts));
+    let end = last_end(times, starts) as u32;
     Draft {
         reply: PlanEnd::Ends(end),
         entries: join(procs, starts),

@@ -1,9 +1,9 @@
 // The scans for 13 to 15. Each answers the first subtask that is so, and 0 for none.
 use crate::read::end_of;
-use crate::read::from_at;
 use crate::read::processor_of;
 use crate::read::start_of;
-use crate::read::to_at;
+use lent::from_at;
+use lent::to_at;
 use terms::LATEST_START;
 ghost use mathlib.Core.Path.{_≡_};
 ghost use Prim.Native.Nat.{_≤_, _<_, max};

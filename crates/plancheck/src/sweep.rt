@@ -1,12 +1,12 @@
 // 16 and 17 answered "no" in one sweep over the subtasks in the order of their starts.
 use crate::read::end_of;
-use crate::read::index;
 use crate::read::processor_of;
 use crate::read::start_of;
 use crate::sort::insert_all;
 use crate::sort::keys;
 use crate::sort::pass;
 use crate::sort::rises;
+use lent::index;
 ghost use mathlib.Core.Path.{_≡_};
 ghost use Prim.Native.Nat.{_+_, _%_, _≤_};
 ghost use lib.ListN.{length};

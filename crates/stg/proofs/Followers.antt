@@ -1,20 +1,20 @@
 -- The lines after the last task's: a line of spaces and tabs is one without fields, and a comment begins with #. Assumes nothing.
-use mathlib.Core.Path.{_≡_, refl, sym}
+use mathlib.Core.Path.{_≡_, refl, sym, _∙_}
 use mathlib.Core.List.{List, [], _∷_, map}
 use mathlib.Core.Bool.{Bool, true, false, not, or-true}
 use Prim.Native.Nat.{ℕ, suc, _+_, _≤_, _<_}
 use native.Mathlib.Omega.{arith}
-use borrow.Author.Tests.{ne-eqb}
+use borrow.Author.Tests.{eq-eqb, ne-eqb}
 use lib.Dec.{eqb}
 use lib.ListN.{length, getD, drop, drop-of-length-le}
 use lib.Seq.{drop-cons, drop-drop}
 use Rattle.terms.specs.Texts.{all, begins, onto, isBlank, isField, value, lines, fields, proper, numbers, endsHere}
 use Rattle.terms.specs.Readings.{refuse, graph, mayFollow, trailer}
 use Rattle.text.specs.Steps.{lineSize}
-use Rattle.text.specs.Standing.{line, Passed, Ended}
+use Rattle.text.specs.Standing.{line}
 use Rattle.text.proofs.Places.{size-within}
 use Rattle.text.proofs.Lines.{later-size, size-on}
-use Rattle.stg.specs.Told.{Follower}
+use Rattle.stg.specs.Told.{LineIs, Follower}
 use Rattle.stg.proofs.OneLine.{lines-at}
 
 abbrev none : List (List ℕ) → Bool
@@ -42,13 +42,9 @@ unfolding all
 none-bad [] e = e
 none-bad (w ∷ ws) e = refl
 
-none-some : (fs : List (List ℕ)) (v : ℕ) (vs : List ℕ) → map value fs ≡ v ∷ vs → none fs ≡ false
-none-some [] v vs e = let z : _≡_ {A = ℕ} 0 1 = cc in absurd (omega arith)
-none-some (w ∷ ws) v vs e = refl
-
-none-none : (fs : List (List ℕ)) → map value fs ≡ [] → none fs ≡ true
-none-none [] e = refl
-none-none (w ∷ ws) e = let z : _≡_ {A = ℕ} 0 1 = cc in absurd (omega arith)
+none-many : (fs : List (List ℕ)) → none fs ≡ eqb (length (map value fs)) 0
+none-many [] = refl
+none-many (w ∷ ws) = sym (ne-eqb (suc (length (map value ws))) 0 (λ e. omega arith))
 
 module _ (text : List ℕ) (at : ℕ) (h : at < length text) where
   sharp : getD text at 0 ≡ 35 → begins (λ b. eqb b 35) (line (drop at text)) ≡ true
@@ -78,19 +74,18 @@ module _ (text : List ℕ) (at : ℕ) (h : at < length text) where
     unfolding mayFollow proper
     follower-bad e = rw (blank-line (line (drop at text)), none-bad (fields (line (drop at text))) e, not-sharp s)
 
-    pub follower-some : (v e : ℕ) → Passed text at v e → mayFollow (line (drop at text)) ≡ false
-    unfolding mayFollow numbers
-    follower-some v e p = rw (blank-line (line (drop at text)), none-some (fields (line (drop at text))) v _ (p .some), not-sharp s)
+    module _ (i : ℕ) (head : List ℕ) (row : List (List ℕ)) (a k : ℕ) (below : Bool) (b e : ℕ) (head′ : List ℕ) (row′ : List (List ℕ)) (p : LineIs text at i head row a k below b e head′ row′) where
+      blank-if : all isBlank (line (drop at text)) ≡ eqb k 0
+      unfolding numbers
+      blank-if = blank-line (line (drop at text)) ∙ none-many (fields (line (drop at text))) ∙ rw (p .many)
 
-    pub follower-blank : (e : ℕ) → Ended text at e → Follower text at e
-    unfolding mayFollow numbers
-    follower-blank e p =
-        record {
-          may = rw (blank-line (line (drop at text)), none-none (fields (line (drop at text))) (p .none));
-          next = p .next;
-          inside = p .inside;
-          on = p .on h;
-        }
+      pub follower-some : (k ≡ 0 → ⊥) → mayFollow (line (drop at text)) ≡ false
+      unfolding mayFollow
+      follower-some z = rw (blank-if, ne-eqb k 0 z, not-sharp s)
+
+      pub follower-blank : k ≡ 0 → Follower text at e
+      unfolding mayFollow
+      follower-blank z = record { may = rw (blank-if, eq-eqb k 0 z); next = p .gives .next; inside = p .gives .inside; on = p .gives .on h }
 
   pub trailer-more : (e : ℕ) → Follower text at e → trailer (lines (drop at text)) ≡ trailer (lines (drop e text))
   unfolding trailer

@@ -1,28 +1,20 @@
 -- What the subtasks' lines put into the two rows. Assumes nothing.
 use Prim.Native.Nat.{ℕ, suc, _+_, _-_, _≤_, _<_}
 use mathlib.Core.Path.{_≡_, refl, _∙_, ap}
-use mathlib.Core.List.{List, [], _∷_, _++_, map}
-use mathlib.Core.Bool.{true, false}
+use mathlib.Core.List.{List, map}
+use mathlib.Core.Bool.{Bool, false}
 use native.Mathlib.Omega.{arith}
-use native.Mathlib.Nat.{add-zero}
 use native.Mathlib.Numerals.{add-one}
 use borrow.Author.Tests.{le-leb, lt-leb}
 use lib.ListN.{length, drop, set, length-append, length-map}
 use lib.Seq.{sets}
 use lib.Dec.{leb}
-use Rattle.terms.specs.Texts.{lines, numbers}
+use Rattle.terms.specs.Texts.{lines}
 use Rattle.text.specs.Standing.{line, later}
 use Rattle.terms.specs.Readings.{Reading, refuse, graph, need, isTask, timeIn, predecessorsIn, arrowsInto, withTask, taskLines, exitLine}
-use Rattle.stg.specs.Told.{hold, Headed, Uncounted, AllAdded, Fails, Rows, outcome, OneTask, AllTasks}
-use Rattle.stg.proofs.OneLine.{top-line, rest-line, not-task, is-task, time-is, preds-are}
-
-sets-append : (l : List (List ℕ)) (i : ℕ) (xs ys : List (List ℕ)) → sets l i (xs ++ ys) ≡ sets (sets l i xs) (i + length xs) ys
-sets-append l i [] ys = rw add-zero
-sets-append l i (x ∷ xs) ys = sets-append (set l i x) (suc i) xs ys ∙ ap (λ (n : ℕ). sets (sets (set l i x) (suc i) xs) n ys) (omega arith)
-
-map-hold : (xs ys : List (List ℕ)) → map hold (xs ++ ys) ≡ map hold xs ++ map hold ys
-map-hold [] ys = refl
-map-hold (x ∷ xs) ys = ap (λ (l : List (List ℕ)). hold x ∷ l) (map-hold xs ys)
+use Rattle.stg.specs.Told.{hold, TaskIs, Fails, Rows, outcome, OneSubtask, AllSubtasks}
+use Rattle.stg.proofs.OneArrow.{sets-append, map-hold}
+use Rattle.stg.proofs.OneLine.{top-line, rest-line}
 
 rows : (ts ts′ : List ℕ) (ar ar′ : List (List ℕ)) (j j′ a a′ : ℕ) → ts ≡ ts′ → ar ≡ ar′ → j ≡ j′ → a ≡ a′ → Rows ts ar j a ≡ Rows ts′ ar′ j′ a′
 rows ts ts′ ar ar′ j j′ a a′ p q r s = cc
@@ -44,33 +36,26 @@ module _ (text : List ℕ) (at j : ℕ) where
   unfolding taskLines
   task-line k = rw (top-line (drop at text), rest-line (drop at text))
 
-  pub task-bad : isTask (j + 1) (line (drop at text)) ≡ false → (k : ℕ) → taskLines (j + 1) (suc k) (lines (drop at text)) ≡ refuse 22
-  task-bad e k = task-line k ∙ rw e
+  pub subtask-bad : isTask (j + 1) (line (drop at text)) ≡ false → (k : ℕ) → taskLines (j + 1) (suc k) (lines (drop at text)) ≡ refuse 22
+  subtask-bad e k = task-line k ∙ rw e
 
-  module _ (t p e : ℕ) (h : Headed text at (j + 1) t p e) where
-    pub task-miss : Uncounted text e p → (k : ℕ) → taskLines (j + 1) (suc k) (lines (drop at text)) ≡ refuse 22
-    task-miss u = task-bad (not-task text at (j + 1) t p e h u)
+  module _ (ar : List (List ℕ)) (a t : ℕ) (below : Bool) (b e : ℕ) (ar′ : List (List ℕ)) (h : TaskIs text at (j + 1) ar a t below b e ar′) where
+    pub subtask-long : 65535 < t → (k : ℕ) → taskLines (j + 1) (suc k) (lines (drop at text)) ≡ refuse 24
+    subtask-long l k = task-line k ∙ rw (h .shaped, h .time, lt-leb t 65535 l)
 
-    module _ (a : ℕ) (ar : List (List ℕ)) (b f : ℕ) (ar′ : List (List ℕ)) (g : AllAdded text e p (j + 1) a ar b f ar′) where
-      good : isTask (j + 1) (line (drop at text)) ≡ true
-      good = is-task text at (j + 1) t p e h (g .sound) (g .many)
+    task-joins : t ≤ 65535 → (k : ℕ) → taskLines (j + 1) (suc k) (lines (drop at text)) ≡ withTask t (arrowsInto (j + 1) (predecessorsIn (line (drop at text)))) (taskLines (j + 1 + 1) k (lines (drop e text)))
+    task-joins l k = task-line k ∙ rw (h .shaped, h .time, le-leb t 65535 l, h .gives .next)
 
-      pub task-long : 65535 < t → (k : ℕ) → taskLines (j + 1) (suc k) (lines (drop at text)) ≡ refuse 24
-      task-long l k = task-line k ∙ rw (good, time-is text at (j + 1) t p e h, lt-leb t 65535 l)
-
-      task-joins : t ≤ 65535 → (k : ℕ) → taskLines (j + 1) (suc k) (lines (drop at text)) ≡ withTask t (arrowsInto (j + 1) (numbers (line (drop e text)))) (taskLines (j + 1 + 1) k (lines (drop f text)))
-      task-joins l k = task-line k ∙ rw (good, time-is text at (j + 1) t p e h, preds-are text at (j + 1) t p e h, le-leb t 65535 l, h .next, g .next)
-
-      pub task-is : (ts : List ℕ) (u : ℕ) → t ≤ 65535 → u ≡ t → OneTask text at j a ts ar b f (set ts j u) ar′
-      task-is ts u l q =
-          record {
-            does = λ k.
-                ap (λ (r : Reading). outcome ts ar j a r) (task-joins l k)
-                ∙ outcome-join ts ar j a t (arrowsInto (j + 1) (numbers (line (drop e text)))) (taskLines (j + 1 + 1) k (lines (drop f text)))
-                ∙ rw (g .counts, g .holds, q);
-            inside = g .inside;
-            few = g .few;
-          }
+    pub subtask-is : (ts : List ℕ) (u : ℕ) → t ≤ 65535 → u ≡ t → OneSubtask text at j a ts ar b e (set ts j u) ar′
+    subtask-is ts u l q =
+        record {
+          does = λ k.
+              ap (λ (r : Reading). outcome ts ar j a r) (task-joins l k)
+              ∙ outcome-join ts ar j a t (arrowsInto (j + 1) (predecessorsIn (line (drop at text)))) (taskLines (j + 1 + 1) k (lines (drop e text)))
+              ∙ rw (h .gives .adds .counts, h .gives .adds .holds, q);
+          inside = h .gives .inside;
+          few = h .gives .few;
+        }
 
 tasks-none : (i : ℕ) (ls : List (List ℕ)) → taskLines i 0 ls ≡ exitLine i ls
 unfolding taskLines
@@ -97,7 +82,7 @@ module _ (text : List ℕ) (at n : ℕ) (ts : List ℕ) (ar : List (List ℕ)) (
   pub laying-bad : (c : ℕ) → j < n → ((k : ℕ) → taskLines (j + 1) (suc k) (lines (drop here text)) ≡ refuse c) → outcome ts ar 0 0 (taskLines 1 n (lines (drop at text))) ≡ Fails c
   laying-bad c h f = g .does ∙ rw (left-one h, f)
 
-  pub laying-more : (b e : ℕ) (ts″ : List ℕ) (ar″ : List (List ℕ)) → j < n → OneTask text here j a ts′ ar′ b e ts″ ar″ → Laying text at n ts ar e b (j + 1) ts″ ar″
+  pub laying-more : (b e : ℕ) (ts″ : List ℕ) (ar″ : List (List ℕ)) → j < n → OneSubtask text here j a ts′ ar′ b e ts″ ar″ → Laying text at n ts ar e b (j + 1) ts″ ar″
   laying-more b e ts″ ar″ h o =
       record {
         does = g .does ∙ ap (λ (k : ℕ). outcome ts′ ar′ j a (taskLines (j + 1) k (lines (drop here text)))) (left-one h) ∙ o .does (n - (j + 1));
@@ -106,7 +91,7 @@ module _ (text : List ℕ) (at n : ℕ) (ts : List ℕ) (ar : List (List ℕ)) (
         upto = omega arith;
       }
 
-  pub laying-end : n ≤ j → AllTasks text at n ts ar a here ts′ ar′
+  pub laying-end : n ≤ j → AllSubtasks text at n ts ar a here ts′ ar′
   laying-end h = record { does = g .does ∙ end; inside = g .inside }
     where
       same : j ≡ n

@@ -1,6 +1,6 @@
 pub mod LineHeads
 pub mod OneArrow
-pub mod Onward
+pub mod Along
 pub mod OneLine
 pub mod Followers
 pub mod Laid

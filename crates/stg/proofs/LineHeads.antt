@@ -1,79 +1,56 @@
--- The first fields of a line, one by one: which lines are no task's, and what stands behind index, time and count. Assumes nothing.
-use mathlib.Core.Path.{_≡_, refl, sym, _∙_, ap}
-use mathlib.Core.Logic.{_⊎_, inl, inr}
+-- The first three numbers of a line, as they stand in a row of three: which line is a task's, and which may be the first. Assumes nothing.
+use mathlib.Core.Path.{_≡_, refl}
 use mathlib.Core.List.{List, [], _∷_}
-use mathlib.Core.Bool.{Bool, false, and-false}
-use Prim.Native.Nat.{ℕ, _≤_}
+use mathlib.Core.Bool.{false, _&&_}
+use Prim.Native.Nat.{ℕ, suc, _-_, _≤_, _<_}
 use native.Mathlib.Omega.{arith}
-use borrow.Author.Tests.{ne-eqb}
-use lib.ListN.{length, drop}
-use Rattle.terms.specs.Texts.{proper, numbers}
-use Rattle.terms.specs.Readings.{isTask, isShape}
-use Rattle.text.specs.Standing.{line, Passed, Stands}
-use Rattle.text.specs.Steps.{nextNumber}
-use Rattle.text.specs.declared.Next.{Next}
-use Rattle.text.proofs.Steps.{stands}
-use Rattle.stg.specs.Told.{Lacks, Takes, Headed, Heads}
-use Rattle.stg.specs.declared.fields.Taken.{Taken}
-use Rattle.stg.specs.declared.fields.Head.{Head}
+use lib.Dec.{eqb, leb}
+use lib.ListN.{length, getD}
+use lib.Seq.{sets, set-out}
+use Rattle.terms.specs.Readings.{isShape, isSize}
 
--- what a reply that is known tells
-pub seen : (text : List ℕ) (at : ℕ) (r x : Next) → r ≡ x → at ≤ length text → r ≡ nextNumber at (drop at text) → Stands text at x
-seen text at r x e h q = rw (sym e ∙ q) (stands text at h)
+past-row : (row xs : List ℕ) (i : ℕ) → length row ≤ i → sets row i xs ≡ row
+past-row row [] i h = refl
+past-row row (x ∷ xs) i h = rw (set-out row i x h) (past-row row xs (suc i) (omega arith))
 
-pub got : (text : List ℕ) (at : ℕ) (r x : Taken) → r ≡ x → Takes text at r → Takes text at x
-got text at r x e h = rw e at h
+-- the row before a number is put there
+abbrev pub noughts : List ℕ
+noughts = 0 ∷ 0 ∷ 0 ∷ []
 
-pub headed : (text : List ℕ) (at i : ℕ) (r x : Head) → r ≡ x → Heads text at i r → Heads text at i x
-headed text at i r x e h = rw e at h
+-- ---- a task's line
 
--- ---- a line that is no task's
-
-module _ (i : ℕ) (l : List ℕ) where
-  pub lacks-0 : (proper l ≡ false) ⊎ (numbers l ≡ []) → isTask i l ≡ false
-  unfolding isTask isShape
-  lacks-0 (inl e) = rw e
-  lacks-0 (inr e) = rw (e, and-false)
-
-  lacks-1 : (j : ℕ) (ns : List ℕ) (b : Bool) → numbers l ≡ j ∷ ns → proper l ≡ b → (b ≡ false) ⊎ (ns ≡ []) → isTask i l ≡ false
-  unfolding isTask isShape
-  lacks-1 j ns b n p (inl e) = rw (p, e)
-  lacks-1 j ns b n p (inr e) = rw (n, e, and-false)
-
-  lacks-2 : (j t : ℕ) (ns : List ℕ) (b : Bool) → numbers l ≡ j ∷ t ∷ ns → proper l ≡ b → (b ≡ false) ⊎ (ns ≡ []) → isTask i l ≡ false
-  unfolding isTask isShape
-  lacks-2 j t ns b n p (inl e) = rw (p, e)
-  lacks-2 j t ns b n p (inr e) = rw (n, e, and-false)
-
-wrong-shape : (i j : ℕ) (ns : List ℕ) → (j ≡ i → ⊥) → isShape i (j ∷ ns) ≡ false
+pub few-shape : (i : ℕ) (ns : List ℕ) → length ns < 3 → isShape i ns ≡ false
 unfolding isShape
-wrong-shape i j [] h = refl
-wrong-shape i j (t ∷ []) h = refl
-wrong-shape i j (t ∷ p ∷ ps) h = rw (ne-eqb j i h)
+few-shape i [] h = refl
+few-shape i (x ∷ []) h = refl
+few-shape i (x ∷ y ∷ []) h = refl
+few-shape i (x ∷ y ∷ z ∷ ns) h = absurd (omega arith)
 
-wrong-index : (i j : ℕ) (l ns : List ℕ) → numbers l ≡ j ∷ ns → (j ≡ i → ⊥) → isTask i l ≡ false
-unfolding isTask
-wrong-index i j l ns n h = rw (n, wrong-shape i j ns h, and-false)
+pub shape-is : (i : ℕ) (ns head : List ℕ) → head ≡ sets noughts 0 ns → 3 ≤ length ns → isShape i ns ≡ (eqb (getD head 0 0) i && eqb (length ns - 3) (getD head 2 0))
+unfolding isShape
+shape-is i [] head h l = absurd (omega arith)
+shape-is i (x ∷ []) head h l = absurd (omega arith)
+shape-is i (x ∷ y ∷ []) head h l = absurd (omega arith)
+shape-is i (x ∷ y ∷ z ∷ ns) head h l =
+    let e : length (x ∷ y ∷ z ∷ ns) - 3 ≡ length ns = omega arith in
+    rw (h, past-row (x ∷ y ∷ z ∷ []) ns 3 (omega arith), e)
 
-module _ (text : List ℕ) (at i j e : ℕ) (h : Passed text at j e) where
-  pub head-wrong : (j ≡ i → ⊥) → isTask i (line (drop at text)) ≡ false
-  head-wrong w = wrong-index i j (line (drop at text)) (numbers (line (drop e text))) (h .some) w
+pub time-is : (ns head : List ℕ) → head ≡ sets noughts 0 ns → 3 ≤ length ns → getD ns 1 0 ≡ getD head 1 0
+time-is [] head h l = absurd (omega arith)
+time-is (x ∷ []) head h l = absurd (omega arith)
+time-is (x ∷ y ∷ []) head h l = absurd (omega arith)
+time-is (x ∷ y ∷ z ∷ ns) head h l = rw (h, past-row (x ∷ y ∷ z ∷ []) ns 3 (omega arith))
 
-  pub head-1 : Lacks text e → isTask i (line (drop at text)) ≡ false
-  head-1 k = lacks-1 i (line (drop at text)) j (numbers (line (drop e text))) (proper (line (drop e text))) (h .some) (h .sound) k
+-- ---- the first line
 
-  module _ (t f : ℕ) (k : Passed text e t f) where
-    pub head-2 : Lacks text f → isTask i (line (drop at text)) ≡ false
-    head-2 m =
-        lacks-2 i (line (drop at text)) j t (numbers (line (drop f text))) (proper (line (drop f text)))
-        (h .some ∙ ap (λ (ns : List ℕ). j ∷ ns) (k .some)) (h .sound ∙ k .sound) m
+pub not-size : (ns : List ℕ) → (length ns ≡ 1 → ⊥) → isSize ns ≡ false
+unfolding isSize
+not-size [] h = refl
+not-size (n ∷ []) h = absurd (h refl)
+not-size (n ∷ m ∷ ns) h = refl
 
-    pub head-3 : (p g : ℕ) → j ≡ i → Passed text f p g → Headed text at i t p g
-    head-3 p g q m =
-        record {
-          sound = h .sound ∙ k .sound ∙ m .sound;
-          some = rw (h .some, k .some, m .some, q);
-          next = h .next ∙ k .next ∙ m .next;
-          inside = m .inside;
-          on = omega arith;
-        }
+pub size-is : (ns head : List ℕ) → head ≡ sets noughts 0 ns → length ns ≡ 1 → (isSize ns ≡ (leb 1 (getD head 0 0) && leb (getD head 0 0) 256)) × (getD ns 0 0 ≡ getD head 0 0)
+unfolding isSize
+size-is [] head h l = absurd (omega arith)
+size-is (n ∷ []) head h l = (rw h, rw h)
+size-is (n ∷ m ∷ ns) head h l = absurd (omega arith)

@@ -1,20 +1,22 @@
--- The line at hand, the first line and a dummy's line. Assumes nothing.
-use mathlib.Core.Path.{_≡_, refl, _∙_, ap}
-use mathlib.Core.Logic.{inl, inr}
+-- The line at hand, the first line, a task's line and a dummy's. Assumes nothing.
+use mathlib.Core.Path.{_≡_, refl, sym, _∙_, ap}
 use mathlib.Core.List.{List, [], _∷_}
 use mathlib.Core.Bool.{Bool, true, false, _&&_, and-false}
-use Prim.Native.Nat.{ℕ, suc, _≤_, _<_}
+use Prim.Native.Nat.{ℕ, suc, _-_, _≤_, _<_}
 use native.Mathlib.Omega.{arith}
 use borrow.Author.Tests.{eq-eqb, ne-eqb, le-leb, lt-leb, le-ltb}
-use lib.Dec.{eqb, ltb}
+use lib.Dec.{eqb, leb, ltb}
 use lib.ListN.{length, getD, drop}
 use lib.Seq.{drop-cons}
 use Rattle.terms.specs.Texts.{all, lines, proper, numbers}
-use Rattle.terms.specs.Readings.{Reading, refuse, lineAtHand, linesAfter, isSize, isFirst, isShape, isTask, isEntryDummy, isExitDummy, timeIn, predecessorsIn, trailer, exitLine, taskLines, entryLine, readLines}
-use Rattle.text.specs.Standing.{line, later, Passed, Ended}
+use Rattle.terms.specs.Readings.{Reading, refuse, lineAtHand, linesAfter, isSize, isFirst, isShape, isTask, isEntryDummy, isExitDummy, predecessorsIn, trailer, exitLine, taskLines, entryLine, readLines}
+use Rattle.text.specs.Standing.{line, later}
 use Rattle.text.proofs.Lines.{lines-cons}
-use Rattle.stg.specs.Told.{Lacks, Headed, Uncounted, Looked, First, Dummy, dummy, DummyOf}
-use Rattle.stg.specs.declared.others.Line.{Line}
+use Rattle.stg.specs.Told.{LineIs, LineOf, TaskIs, TaskOf, FirstIs, Dummy, dummy, DummyOf}
+use Rattle.stg.specs.declared.line.Line.{Line}
+use Rattle.stg.specs.declared.others.Passage.{Passage}
+use Rattle.stg.specs.declared.tasks.Task.{Task}
+use Rattle.stg.proofs.LineHeads.{noughts, few-shape, shape-is, time-is, not-size, size-is}
 
 -- ---- the line at hand
 
@@ -38,39 +40,77 @@ module _ (text : List ℕ) where
   unfolding readLines
   not-first e = rw (top-line text, e)
 
-  pub first-none : Lacks text 0 → readLines (lines text) ≡ refuse 21
-  unfolding isFirst isSize
-  first-none (inl e) = not-first (rw e)
-  first-none (inr e) = not-first (rw (e, and-false))
+  pub first-bad : proper (line text) ≡ false → readLines (lines text) ≡ refuse 21
+  unfolding isFirst
+  first-bad e = not-first (rw e)
 
-  module _ (n e : ℕ) (p : Passed text 0 n e) where
-    pub first-bad : proper (line (drop e text)) ≡ false → readLines (lines text) ≡ refuse 21
+  module _ (row : List (List ℕ)) (k : ℕ) (below : Bool) (b e : ℕ) (head : List ℕ) (row′ : List (List ℕ)) (h : LineIs text 0 0 noughts row 0 k below b e head row′) where
+    pub first-many : (k ≡ 1 → ⊥) → readLines (lines text) ≡ refuse 21
     unfolding isFirst
-    first-bad q = not-first (rw (p .sound, q))
+    first-many z = not-first (rw (not-size (numbers (line text)) (λ q. z (sym (h .many) ∙ q)), and-false))
 
-    pub first-more : (v f : ℕ) → Passed text e v f → readLines (lines text) ≡ refuse 21
-    unfolding isFirst isSize
-    first-more v f q = not-first (rw (p .some, q .some, and-false))
+    module _ (q : k ≡ 1) where
+      size : (isSize (numbers (line text)) ≡ (leb 1 (getD head 0 0) && leb (getD head 0 0) 256)) × (getD (numbers (line text)) 0 0 ≡ getD head 0 0)
+      size = size-is (numbers (line text)) head (h .heads) (h .many ∙ q)
 
-    module _ (f : ℕ) (q : Ended text e f) where
-      pub first-low : n < 1 → readLines (lines text) ≡ refuse 21
-      unfolding isFirst isSize
-      first-low h = not-first (rw (p .some, q .none, lt-leb 1 n h, and-false))
+      pub first-low : getD head 0 0 < 1 → readLines (lines text) ≡ refuse 21
+      unfolding isFirst
+      first-low l = not-first (rw (size .0, lt-leb 1 (getD head 0 0) l, and-false))
 
-      pub first-high : 256 < n → readLines (lines text) ≡ refuse 21
-      unfolding isFirst isSize
-      first-high h = not-first (rw (p .some, q .none, lt-leb n 256 h, and-false) (and-false (proper (line text))))
+      pub first-high : 256 < getD head 0 0 → readLines (lines text) ≡ refuse 21
+      unfolding isFirst
+      first-high l = not-first (rw (size .0, lt-leb (getD head 0 0) 256 l, and-false) (and-false (proper (line text))))
 
-      is-first : 1 ≤ n → n ≤ 256 → isFirst (line text) ≡ true
-      unfolding isFirst isSize
-      is-first h k = rw (p .sound, q .sound, p .some, q .none, le-leb 1 n h, le-leb n 256 k)
+      pub first-is : 1 ≤ getD head 0 0 → getD head 0 0 ≤ 256 → FirstIs text (getD head 0 0) e
+      unfolding readLines isFirst
+      first-is l m =
+          record {
+            does = rw (top-line text, rest-line text, h .sound, size .0, le-leb 1 (getD head 0 0) l, le-leb (getD head 0 0) 256 m, size .1, h .gives .next);
+            inside = h .gives .inside;
+            size = record { low = l; high = m };
+          }
 
-      first-does : 1 ≤ n → n ≤ 256 → readLines (lines text) ≡ entryLine n (lines (drop f text))
-      unfolding readLines
-      first-does h k = rw (top-line text, rest-line text, is-first h k, p .some, p .next, q .next)
+-- ---- a task's line
 
-      pub first-is : 1 ≤ n → n ≤ 256 → First text n f
-      first-is h k = record { does = first-does h k; inside = q .inside; size = record { low = h; high = k } }
+pub task-bad : (i : ℕ) (l : List ℕ) → proper l ≡ false → isTask i l ≡ false
+unfolding isTask
+task-bad i l e = rw e
+
+module _ (text : List ℕ) (at i : ℕ) (row : List (List ℕ)) (a k : ℕ) (below : Bool) (b e : ℕ) (head : List ℕ) (row′ : List (List ℕ)) (h : LineIs text at i noughts row a k below b e head row′) where
+  pub task-few : k < 3 → isTask i (line (drop at text)) ≡ false
+  unfolding isTask
+  task-few l = rw (few-shape i (numbers (line (drop at text))) (omega (arith, h .many)), and-false)
+
+  module _ (l : 3 ≤ k) where
+    enough : 3 ≤ length (numbers (line (drop at text)))
+    enough = omega (arith, h .many)
+
+    shape : isShape i (numbers (line (drop at text))) ≡ (eqb (getD head 0 0) i && eqb (k - 3) (getD head 2 0))
+    shape = shape-is i (numbers (line (drop at text))) head (h .heads) enough ∙ rw (h .many)
+
+    pub task-other : (getD head 0 0 ≡ i → ⊥) → isTask i (line (drop at text)) ≡ false
+    unfolding isTask
+    task-other z = rw (shape, ne-eqb (getD head 0 0) i z, and-false)
+
+    pub task-miss : (getD head 2 0 ≡ k - 3 → ⊥) → isTask i (line (drop at text)) ≡ false
+    unfolding isTask
+    task-miss z = rw (shape, ne-eqb (k - 3) (getD head 2 0) (λ q. z (sym q)), and-false) (and-false (proper (line (drop at text))))
+
+    pub task-is : getD head 0 0 ≡ i → getD head 2 0 ≡ k - 3 → TaskIs text at i row a (getD head 1 0) below b e row′
+    unfolding isTask
+    task-is p q =
+        record {
+          shaped = rw (h .sound, shape, eq-eqb (getD head 0 0) i p, eq-eqb (k - 3) (getD head 2 0) (sym q));
+          time = time-is (numbers (line (drop at text))) head (h .heads) enough;
+          gives = h .gives;
+        }
+
+-- what a reply that is known tells: of a line, of a task's line
+pub lined : (text : List ℕ) (at i : ℕ) (head : List ℕ) (row : List (List ℕ)) (a : ℕ) (head′ : List ℕ) (row′ : List (List ℕ)) (r x : Line) → r ≡ x → LineOf text at i head row a head′ row′ r → LineOf text at i head row a head′ row′ x
+lined text at i head row a head′ row′ r x e h = rw e at h
+
+pub tasked : (text : List ℕ) (at i : ℕ) (row : List (List ℕ)) (a : ℕ) (row′ : List (List ℕ)) (r x : Task) → r ≡ x → TaskOf text at i row a row′ r → TaskOf text at i row a row′ x
+tasked text at i row a row′ r x e h = rw e at h
 
 -- ---- a dummy's line
 
@@ -87,47 +127,23 @@ pub exit-line : (i : ℕ) (s : List ℕ) → exitLine i (lines s) ≡ dummy i (l
 unfolding exitLine
 exit-line i s = rw (top-line s, rest-line s)
 
--- the line whose first three fields were passed
-module _ (text : List ℕ) (at i t p e : ℕ) (h : Headed text at i t p e) where
-  pub not-task : Uncounted text e p → isTask i (line (drop at text)) ≡ false
-  unfolding isTask isShape
-  not-task u = rw (h .sound, h .some, eq-eqb i i refl) u
-
-  pub is-task : proper (line (drop e text)) ≡ true → length (numbers (line (drop e text))) ≡ p → isTask i (line (drop at text)) ≡ true
-  unfolding isTask isShape
-  is-task s m = rw (h .sound, s, h .some, eq-eqb i i refl, eq-eqb _ _ m)
-
-  pub time-is : timeIn (line (drop at text)) ≡ t
-  time-is = rw (h .some)
-
-  pub preds-are : predecessorsIn (line (drop at text)) ≡ numbers (line (drop e text))
-  preds-are = rw (h .some)
-
-  pub dummy-miss : Uncounted text e p → (r : Reading) → dummy i (line (drop at text)) r ≡ refuse 22
-  dummy-miss u r = rw (not-task u)
-
-  module _ (below : Bool) (f : ℕ) (b : Looked text e p i below f) where
-    is-dummy : isExitDummy i (line (drop at text)) ≡ (eqb t 0 && below)
-    unfolding isExitDummy
-    is-dummy = rw (time-is, preds-are, b .each)
-
-    pub dummy-time : (t ≡ 0 → ⊥) → (r : Reading) → dummy i (line (drop at text)) r ≡ refuse 23
-    dummy-time z r = rw (is-task (b .sound) (b .many), is-dummy, ne-eqb t 0 z)
-
-    pub dummy-far : below ≡ false → (r : Reading) → dummy i (line (drop at text)) r ≡ refuse 23
-    dummy-far z r = rw (is-task (b .sound) (b .many), is-dummy, z, and-false)
-
-    pub dummy-is : t ≡ 0 → below ≡ true → Dummy text at i f
-    dummy-is y z =
-        record {
-          does = λ r. rw (is-task (b .sound) (b .many), is-dummy, eq-eqb t 0 y, z);
-          next = h .next ∙ b .next;
-          inside = b .inside;
-        }
-
 pub dummy-bad : (i : ℕ) (l : List ℕ) → isTask i l ≡ false → (r : Reading) → dummy i l r ≡ refuse 22
 dummy-bad i l e r = rw e
 
+module _ (text : List ℕ) (at i : ℕ) (row : List (List ℕ)) (a t : ℕ) (below : Bool) (b e : ℕ) (row′ : List (List ℕ)) (h : TaskIs text at i row a t below b e row′) where
+  is-dummy : isExitDummy i (line (drop at text)) ≡ (eqb t 0 && below)
+  unfolding isExitDummy
+  is-dummy = rw (h .time, h .gives .each)
+
+  pub dummy-time : (t ≡ 0 → ⊥) → (r : Reading) → dummy i (line (drop at text)) r ≡ refuse 23
+  dummy-time z r = rw (h .shaped, is-dummy, ne-eqb t 0 z)
+
+  pub dummy-far : below ≡ false → (r : Reading) → dummy i (line (drop at text)) r ≡ refuse 23
+  dummy-far z r = rw (h .shaped, is-dummy, z, and-false)
+
+  pub dummy-is : t ≡ 0 → below ≡ true → Dummy text at i e
+  dummy-is y z = record { does = λ r. rw (h .shaped, is-dummy, eq-eqb t 0 y, z); next = h .gives .next; inside = h .gives .inside }
+
 -- what a reply that is known tells
-pub dummied : (text : List ℕ) (at i : ℕ) (r x : Line) → r ≡ x → DummyOf text at i r → DummyOf text at i x
+pub dummied : (text : List ℕ) (at i : ℕ) (r x : Passage) → r ≡ x → DummyOf text at i r → DummyOf text at i x
 dummied text at i r x e h = rw e at h

@@ -11,11 +11,11 @@ use Rattle.terms.specs.declared.Check.the-variants as check
 use Rattle.terms.specs.declared.Counts.the-variants as counts
 use Rattle.terms.specs.declared.Refusal.{Refusal}
 use Rattle.text.specs.Standing.{line, later}
-use Rattle.stg.specs.Told.{Fails, outcome, First, Dummy, dummy, AllTasks, Opened, closed, Leaves}
+use Rattle.stg.specs.Told.{Fails, outcome, FirstIs, Dummy, dummy, AllSubtasks, Opened, closed, Leaves}
 use Rattle.stg.proofs.OneLine.{entry-line, exit-line}
 
 -- the first line and the entry dummy's
-module _ (text : List ℕ) (n e : ℕ) (f : First text n e) where
+module _ (text : List ℕ) (n e : ℕ) (f : FirstIs text n e) where
   to-entry : readLines (lines text) ≡ dummy 0 (line (drop e text)) (taskLines 1 n (later (drop e text)))
   to-entry = f .does ∙ entry-line n (drop e text)
 
@@ -49,7 +49,7 @@ module _ (text : List ℕ) (ts : List ℕ) (ar : List (List ℕ)) (ts′ : List 
     unfolding Leaves
     tasks-refused refusal h = ap (outcome ts ar 0 0) (o .does) ∙ h
 
-    module _ (b f : ℕ) (t : AllTasks text e n ts ar b f ts′ ar′) (r : Check) (c : exitLine (n + 1) (lines (drop f text)) ≡ closed r) where
+    module _ (b f : ℕ) (t : AllSubtasks text e n ts ar b f ts′ ar′) (r : Check) (c : exitLine (n + 1) (lines (drop f text)) ≡ closed r) where
       to-close : (x : Check) → r ≡ x → outcome ts ar 0 0 (readLines (lines text)) ≡ outcome ts′ ar′ n b (closed x)
       to-close x q = ap (outcome ts ar 0 0) (o .does) ∙ t .does ∙ ap (outcome ts′ ar′ n b) (c ∙ ap closed q)
 

@@ -1,16 +1,15 @@
 // The reader of STG texts: one pass over the text, line by line, field by field.
-mod fields;
+mod line;
 mod others;
 mod rows;
-mod subtasks;
+mod tasks;
 
 use graph::check;
-use others::Opening;
 use others::take_closing;
 use others::take_opening;
 use rows::clear_past;
-use subtasks::Step;
-use subtasks::take_tasks;
+use tasks::Step;
+use tasks::take_subtasks;
 use terms::Check;
 use terms::Counts;
 use terms::GraphSize;
@@ -32,8 +31,8 @@ fn read_lines(text: &[u8], times: &mut [u16], arrows: &mut [[u16; 2]]) -> Counts
     ensures { λ r. ⌜ Leaves (now (times .entry)) (now (arrows .entry)) (readLines (lines (now (text .entry)))) (now (times .exit)) (now (arrows .exit)) r ⌝ }
 {
     match take_opening(text) {
-        Opening::Refused(refusal) => Counts::Refused(refusal),
-        Opening::Subtasks(n, e) => match take_tasks(text, e, n, times, arrows) {
+        Step::Refused(refusal) => Counts::Refused(refusal),
+        Step::Counted(n, e) => match take_subtasks(text, e, n, times, arrows) {
             Step::Refused(refusal) => Counts::Refused(refusal),
             Step::Counted(a, f) => match take_closing(text, f, n + 1) {
                 Check::Refused(refusal) => Counts::Refused(refusal),

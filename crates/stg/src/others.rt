@@ -1,111 +1,90 @@
 // The lines that give no subtask: the first, the two dummies', and those that may follow the last task's.
-use super::fields::Head;
-use super::fields::Taken;
-use super::fields::first_line;
-use super::fields::task_head;
+use super::line::Line;
+use super::line::take_line;
+use super::tasks::Step;
+use super::tasks::Task;
+use super::tasks::task_line;
 use terms::Check;
 use terms::Refusal;
-use text::Next;
 use text::line_after;
-use text::next_number;
 ghost use mathlib.Core.Path.{_≡_};
 ghost use mathlib.Core.List.{[]};
-ghost use mathlib.Core.Bool.{cond, _&&_};
+ghost use mathlib.Core.Bool.{cond};
 ghost use Prim.Native.Nat.{_≤_, _<_};
-ghost use lib.Dec.{ltb};
 ghost use lib.ListN.{length, drop};
 ghost use Rattle.terms.specs.Texts.{lines};
 ghost use Rattle.terms.specs.Readings.{refuse, graph, trailer, exitLine};
-ghost use Rattle.stg.specs.Told.{DummyOf, BoundedOf, FollowerOf, OpeningOf, closed};
+ghost use Rattle.stg.specs.Told.{FirstOf, DummyOf, FollowerOf, OpeningOf, closed};
 
-// Whether a dummy's predecessors are all below its index, and the place where the next line begins.
-pub enum Bounded {
+// The number of subtasks on the first line, and the place where the next line begins.
+pub enum First {
     Misshapen,
-    Below(bool, usize),
-}
-
-// The number of subtasks, and the place where their lines begin.
-pub enum Opening {
-    Refused(Refusal),
-    Subtasks(usize, usize),
+    Is(usize, usize),
 }
 
 // The place where the next line begins.
-pub enum Line {
+pub enum Passage {
     Refused(Refusal),
     Passed(usize),
 }
 
-fn still_below(below: bool, q: usize, i: usize) -> bool
-    ensures { λ r. ⌜ r ≡ (below && ltb q i) ⌝ }
+// The first line, which is nothing but the number of subtasks. Nobody reads the spare row.
+fn first_line(text: &[u8]) -> First
+    ensures { λ r. ⌜ FirstOf (now (text .entry)) r ⌝ }
 {
-    if q < i {
-        return below;
+    let mut head = [0usize; 3];
+    let mut spare = [[0u16; 2]; 1];
+    let Line::Is(k, _, _, e) = take_line(text, 0, 0, &mut head, &mut spare, 0) else {
+        return First::Misshapen;
+    };
+    if k != 1 {
+        return First::Misshapen;
     }
-    false
+    let n = head[0];
+    if n < 1 {
+        return First::Misshapen;
+    }
+    if 256 < n {
+        return First::Misshapen;
+    }
+    First::Is(n, e)
 }
 
-// The predecessors of dummy i, of which the line must have `count`.
-fn look_predecessors(text: &[u8], at: usize, count: usize, i: usize) -> Bounded
-    requires { ⌜ at ≤ length (now text) ⌝ }
-    ensures { λ r. ⌜ BoundedOf (now (text .entry)) at count i r ⌝ }
-{
-    let mut here = at;
-    let mut below = true;
-    let mut k: usize = 0;
-    loop {
-        match next_number(text, here) {
-            Next::Misshapen => {
-                return Bounded::Misshapen;
-            }
-            Next::LineEnd(e) => {
-                if k == count {
-                    return Bounded::Below(below, e);
-                }
-                return Bounded::Misshapen;
-            }
-            Next::Field(q, e) => {
-                below = still_below(below, q, i);
-                here = e;
-            }
-        }
-        k += 1;
-    }
-}
-
-// The line of dummy i: time 0, predecessors below i, so dummy 0 has none.
-fn dummy_line(text: &[u8], at: usize, i: usize) -> Line
-    requires { ⌜ at ≤ length (now text) ⌝ }
+// The line of dummy i: time 0, predecessors below i, so dummy 0 has none. Nobody reads the arrows.
+fn dummy_line(text: &[u8], at: usize, i: usize) -> Passage
+    requires { ⌜ (at ≤ length (now text)) × (i < 65536) ⌝ }
     ensures { λ r. ⌜ DummyOf (now (text .entry)) at i r ⌝ }
 {
-    let Head::Is(t, p, e) = task_head(text, at, i) else {
-        return Line::Refused(Refusal { number: 22 });
-    };
-    let Bounded::Below(below, f) = look_predecessors(text, e, p, i) else {
-        return Line::Refused(Refusal { number: 22 });
+    let mut spare = [[0u16; 2]; 1];
+    let Task::Is(t, below, _, e) = task_line(text, at, i, &mut spare, 0) else {
+        return Passage::Refused(Refusal { number: 22 });
     };
     if t != 0 {
-        return Line::Refused(Refusal { number: 23 });
+        return Passage::Refused(Refusal { number: 23 });
     }
     if !below {
-        return Line::Refused(Refusal { number: 23 });
+        return Passage::Refused(Refusal { number: 23 });
     }
-    Line::Passed(f)
+    Passage::Passed(e)
 }
 
 // A blank line or a comment, after the last task's line.
-fn following_line(text: &[u8], at: usize) -> Line
+fn following_line(text: &[u8], at: usize) -> Passage
     requires { ⌜ at < length (now text) ⌝ }
     ensures { λ r. ⌜ FollowerOf (now (text .entry)) at r ⌝ }
 {
     if text[at] == 35 {
-        return Line::Passed(line_after(text, at));
+        return Passage::Passed(line_after(text, at));
     }
-    match next_number(text, at) {
-        Next::Misshapen => Line::Refused(Refusal { number: 22 }),
-        Next::Field(_, _) => Line::Refused(Refusal { number: 22 }),
-        Next::LineEnd(e) => Line::Passed(e),
+    let mut head = [0usize; 3];
+    let mut spare = [[0u16; 2]; 1];
+    let Line::Is(k, _, _, e) = take_line(text, at, 0, &mut head, &mut spare, 0) else {
+        return Passage::Refused(Refusal { number: 22 });
+    };
+    if k != 0 {
+        return Passage::Refused(Refusal { number: 22 });
     }
+    Passage::Passed(e)
 }
 
 // Whether only such lines stand from `at` on.
@@ -116,10 +95,10 @@ fn may_end(text: &[u8], at: usize) -> bool
     let mut here = at;
     while here < text.len() {
         match following_line(text, here) {
-            Line::Refused(_) => {
+            Passage::Refused(_) => {
                 return false;
             }
-            Line::Passed(e) => {
+            Passage::Passed(e) => {
                 here = e;
             }
         }
@@ -127,27 +106,27 @@ fn may_end(text: &[u8], at: usize) -> bool
     true
 }
 
-// The first line and the entry dummy's.
-pub fn take_opening(text: &[u8]) -> Opening
+// The first line and the entry dummy's: the number of subtasks, and the place where their lines begin.
+pub fn take_opening(text: &[u8]) -> Step
     ensures { λ r. ⌜ OpeningOf (now (text .entry)) r ⌝ }
 {
     match first_line(text) {
-        Taken::Nothing => Opening::Refused(Refusal { number: 21 }),
-        Taken::Number(n, e) => match dummy_line(text, e, 0) {
-            Line::Refused(refusal) => Opening::Refused(refusal),
-            Line::Passed(f) => Opening::Subtasks(n, f),
+        First::Misshapen => Step::Refused(Refusal { number: 21 }),
+        First::Is(n, e) => match dummy_line(text, e, 0) {
+            Passage::Refused(refusal) => Step::Refused(refusal),
+            Passage::Passed(f) => Step::Counted(n, f),
         },
     }
 }
 
 // The line of the exit dummy, task i, and those that may follow.
 pub fn take_closing(text: &[u8], at: usize, i: usize) -> Check
-    requires { ⌜ at ≤ length (now text) ⌝ }
+    requires { ⌜ (at ≤ length (now text)) × (i < 65536) ⌝ }
     ensures { λ r. ⌜ exitLine i (lines (drop at (now (text .entry)))) ≡ closed r ⌝ }
 {
     match dummy_line(text, at, i) {
-        Line::Refused(refusal) => Check::Refused(refusal),
-        Line::Passed(e) => {
+        Passage::Refused(refusal) => Check::Refused(refusal),
+        Passage::Passed(e) => {
             if may_end(text, e) {
                 return Check::Sound;
             }

@@ -185,6 +185,19 @@ unfolding line
 line-end [] h k = refl
 line-end (b ∷ s) h k = at-end b s (isBlank b) (endsHere (b ∷ s)) refl refl h k
 
+-- and if LF does not stand there, CR LF does
+two-left : (b : ℕ) (s : List ℕ) (t u : Bool) → isBlank b ≡ t → isReturn b s ≡ u → (b ≡ 10 → ⊥) → blanks (b ∷ s) ≡ 0 → word (b ∷ s) ≡ [] → lineSize (b ∷ s) ≡ 2
+unfolding blanks word lineSize
+two-left b s true u e f g h k = let z : _≡_ {A = ℕ} (suc (blanks s)) 0 = rw e at h in absurd (omega arith)
+two-left b s false false e f g h k = let z : _≡_ {A = List ℕ} (b ∷ word s) [] = rw (e, ne-eqb b 10 g, f) at k in let y : _≡_ {A = ℕ} 0 1 = cc in absurd (omega arith)
+two-left b [] false true e f g h k = let z = both (eqb b 13) false f .1 in let y : _≡_ {A = ℕ} 0 1 = cc in absurd (omega arith)
+two-left b (d ∷ s) false true e f g h k = rw (ne-eqb b 10 g, both (eqb b 13) (isFeed d) f .1)
+
+pub size-return : (s : List ℕ) (i : ℕ) → i < length s → (getD s i 0 ≡ 10 → ⊥) → blanks (drop i s) ≡ 0 → word (drop i s) ≡ [] → lineSize (drop i s) ≡ 2
+size-return s i h g =
+    rw (drop-cons s i 0 h)
+    (two-left (getD s i 0) (drop (suc i) s) (isBlank (getD s i 0)) (isReturn (getD s i 0) (drop (suc i) s)) refl refl g)
+
 pub fields-none : fields [] ≡ []
 unfolding fields
 fields-none = refl

@@ -9,7 +9,7 @@ use mathlib.Core.Logic.{⊎-elim}
 use lib.ListN.{length, drop, length-drop}
 use lib.Seq.{drop-drop}
 use borrow.Author.Tests.{ne-eqb}
-use Rattle.terms.specs.Texts.{all, fields, isField, value, proper, numbers, blanks, word, nextField}
+use Rattle.terms.specs.Texts.{all, fields, isField, value, proper, numbers, blanks, word}
 use Rattle.text.specs.declared.FieldValue.{FieldValue}
 use Rattle.text.specs.declared.FieldValue.the-variants as fieldValue
 use Rattle.text.specs.declared.Next.the-variants as next
@@ -28,12 +28,9 @@ module _ (text : List ℕ) (at start : ℕ) (p : start ≡ at + blanks (drop at 
   to-start : drop (blanks (drop at text)) (drop at text) ≡ drop start text
   to-start = rw (drop-drop (blanks (drop at text)) at text, ← p)
 
-  start-blanks : blanks (drop start text) ≡ 0
+  -- no space and no tab stands there
+  pub start-blanks : blanks (drop start text) ≡ 0
   start-blanks = sym (ap blanks to-start) ∙ blanks-none (drop at text)
-
-  -- the field that stands there
-  pub start-field : nextField (drop start text) ≡ word (drop start text)
-  start-field = rw start-blanks
 
   next-start : nextNumber at (drop at text) ≡ nextAt start (drop start text)
   unfolding nextNumber

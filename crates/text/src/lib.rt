@@ -1,5 +1,6 @@
 // The fields, numbers and lines of a text, from a place in it on. A place past the end is as good as the end.
 ghost use mathlib.Core.Path.{_≡_};
+ghost use mathlib.Core.List.{[]};
 ghost use mathlib.Core.Bool.{_||_};
 ghost use Prim.Native.Nat.{_<_, _+_};
 ghost use lib.ListN.{length, drop};
@@ -55,7 +56,7 @@ fn line_ends(text: &[u8], at: usize) -> bool
     if b != 13 {
         return false;
     }
-    if text.len() - at < 2 {
+    if at + 1 == text.len() {
         return false;
     }
     text[at + 1] == 10
@@ -118,16 +119,22 @@ pub fn line_after(text: &[u8], at: usize) -> usize
     i
 }
 
-// The next field from `at` on, as that piece of the lent text.
-pub fn next_field(text: &[u8], at: usize) -> &[u8]
-    ensures { λ r. ⌜ now r ≡ nextField (drop at (now (text .entry))) ⌝ }
+// The field that begins at `at`, as that piece of the lent text.
+fn field_from(text: &[u8], at: usize) -> &[u8]
+    ensures { λ r. ⌜ now r ≡ word (drop at (now (text .entry))) ⌝ }
 {
     if text.len() <= at {
         return &text[0..0];
     }
-    let start = blanks_end(text, at);
-    let end = field_end(text, start);
-    &text[start..end]
+    let end = field_end(text, at);
+    &text[at..end]
+}
+
+// The next field from `at` on, as that piece of the lent text.
+pub fn next_field(text: &[u8], at: usize) -> &[u8]
+    ensures { λ r. ⌜ now r ≡ nextField (drop at (now (text .entry))) ⌝ }
+{
+    field_from(text, blanks_end(text, at))
 }
 
 // The number of a field, which is 1 to 8 digits.
@@ -153,15 +160,29 @@ pub fn number_of(piece: &[u8]) -> FieldValue
     FieldValue::Is(value)
 }
 
+// The place behind the line end at `at`, where no field begins and no space or tab stands: LF, CR and LF, or nothing at the text's end.
+fn past_end(text: &[u8], at: usize) -> usize
+    requires { ⌜ (blanks (drop at (now text)) ≡ 0) × (word (drop at (now text)) ≡ []) ⌝ }
+    ensures { λ r. ⌜ r ≡ at + lineSize (drop at (now (text .entry))) ⌝ }
+{
+    if text.len() <= at {
+        return at;
+    }
+    if text[at] == 10 {
+        return at + 1;
+    }
+    at + 2
+}
+
 // What stands next on the line at `at`: the field is taken as a piece of the text, then read as a number.
 pub fn next_number(text: &[u8], at: usize) -> Next
     ensures { λ r. ⌜ r ≡ nextNumber at (drop at (now (text .entry))) ⌝ }
 {
     let start = blanks_end(text, at);
-    let piece = next_field(text, start);
+    let piece = field_from(text, start);
     let size = piece.len();
     if size == 0 {
-        return Next::LineEnd(line_after(text, start));
+        return Next::LineEnd(past_end(text, start));
     }
     match number_of(piece) {
         FieldValue::Misshapen => Next::Misshapen,

@@ -1,4 +1,5 @@
 // What the planner says of a text, held to the output that an independent implementation gave for it.
+use lent::in_turn;
 use plans::check_row;
 use plans::list_row;
 use stg::read_stg;
@@ -9,8 +10,6 @@ use terms::PlanEnd;
 use terms::Processor;
 use terms::Verdict;
 use verdict::judge;
-ghost use mathlib.Core.Path.{_≡_};
-ghost use lib.ListN.{length};
 
 // A number of a stored output, and the place behind the byte after it.
 pub struct Stored {
@@ -106,19 +105,6 @@ fn plan_agrees(times: &[u16], arrows: &[[u16; 2]], line: Line, order: &[u16]) ->
             }
         }
     }
-}
-
-// The order 1, 2, 3, ..
-fn in_turn() -> [u16; 256]
-    ensures { λ r. ⌜ length r ≡ 256 ⌝ }
-{
-    let mut order = [0u16; 256];
-    let mut j: u16 = 0;
-    while j < 256 {
-        order[j as usize] = j + 1;
-        j += 1;
-    }
-    order
 }
 
 // The lines for 1 to 4 processors, behind the header.

@@ -26,13 +26,13 @@ processors : (c : tie.Else2) → Among 1 16 (c .before .before .before .before .
 processors c = record { low = omega (arith, c .before .if1 .left); high = omega (arith, c .if2 .left) }
 
 check-requires : tie.Need-check-requires
-check-requires c κs = search needs
+check-requires c κs = tt
 
 enum-known-refusal : tie.Need-enum-known-refusal
 enum-known-refusal c = search needs
 
 refused-requires : tie.Need-refused-requires
-refused-requires c κs = search needs
+refused-requires c κs = tt
 
 returns : tie.Need-returns
 returns c =
@@ -43,40 +43,40 @@ returns c =
 enum-told : tie.Need-enum-told
 enum-told c = search needs
 
-refused-by-requires : tie.Need-refused-by-requires
-refused-by-requires c κs = search needs
+refused-requires-2 : tie.Need-refused-requires-2
+refused-requires-2 c κs = tt
 
 returns-2 : tie.Need-returns-2
-returns-2 c = refused-draft _ _ _ _ _ _ _ (c .refused-by .ensures) (refused-8 _ _ _ _ _ (accepted (c .before .before)) (λ h. omega (arith, h .low, c .before .if1 .taken)))
+returns-2 c = refused-draft _ _ _ _ _ _ _ (c .refused2 .ensures) (refused-8 _ _ _ _ _ (accepted (c .before .before)) (λ h. omega (arith, h .low, c .before .if1 .taken)))
 
-refused-by-requires-2 : tie.Need-refused-by-requires-2
-refused-by-requires-2 c κs = search needs
+refused-requires-3 : tie.Need-refused-requires-3
+refused-requires-3 c κs = tt
 
 returns-3 : tie.Need-returns-3
-returns-3 c = refused-draft _ _ _ _ _ _ _ (c .refused-by2 .ensures) (refused-8 _ _ _ _ _ (accepted (c .before .before .before)) (λ h. omega (arith, h .high, c .before .if2 .taken)))
+returns-3 c = refused-draft _ _ _ _ _ _ _ (c .refused3 .ensures) (refused-8 _ _ _ _ _ (accepted (c .before .before .before)) (λ h. omega (arith, h .high, c .before .if2 .taken)))
 
 is-order-requires : tie.Need-is-order-requires
 is-order-requires c κs = few (c .before .before)
 
-refused-by-requires-3 : tie.Need-refused-by-requires-3
-refused-by-requires-3 c κs = search needs
+refused-requires-4 : tie.Need-refused-requires-4
+refused-requires-4 c κs = tt
 
 returns-4 : tie.Need-returns-4
 returns-4 c =
     let c-is-order = c .before .before .is-order in
-    refused-draft _ _ _ _ _ _ _ (c .refused-by3 .ensures) (refused-10 _ _ _ _ _ (accepted (c .before .before .before .before .before)) (processors (c .before .before .before)) (unsaid _ (c-is-order .result) (c .before .if3 .taken) (c-is-order .ensures)))
+    refused-draft _ _ _ _ _ _ _ (c .refused4 .ensures) (refused-10 _ _ _ _ _ (accepted (c .before .before .before .before .before)) (processors (c .before .before .before)) (unsaid _ (c-is-order .result) (c .before .if3 .taken) (c-is-order .ensures)))
 
-refused-by-requires-4 : tie.Need-refused-by-requires-4
-refused-by-requires-4 c κs = search needs
+refused-requires-5 : tie.Need-refused-requires-5
+refused-requires-5 c κs = tt
 
 returns-5 : tie.Need-returns-5
 returns-5 c =
     let c-is-order = c .before .before .before .is-order in
     let c-if3 = c .before .before .if3 in
-    refused-draft _ _ _ _ _ _ _ (c .refused-by4 .ensures) (refused-11 _ _ _ _ _ (accepted (c .before .before .before .before .before .before)) (processors (c .before .before .before .before)) (said _ (c-is-order .result) (c-if3 .left) (c-is-order .ensures)) (c .before .if4 .taken))
+    refused-draft _ _ _ _ _ _ _ (c .refused5 .ensures) (refused-11 _ _ _ _ _ (accepted (c .before .before .before .before .before .before)) (processors (c .before .before .before .before)) (said _ (c-is-order .result) (c-if3 .left) (c-is-order .ensures)) (c .before .if4 .taken))
 
 index-requires : tie.Need-index-requires
-index-requires c κs = search needs
+index-requires c κs = tt
 
 array-borrow-prefix-procs : tie.Need-array-borrow-prefix-procs
 array-borrow-prefix-procs c = few (c .before .before .before .before .before .before)
@@ -115,14 +115,14 @@ draft-plan-spec =
     refused-requires
     returns
     enum-told
-    refused-by-requires
+    refused-requires-2
     returns-2
-    refused-by-requires-2
+    refused-requires-3
     returns-3
     is-order-requires
-    refused-by-requires-3
+    refused-requires-4
     returns-4
-    refused-by-requires-4
+    refused-requires-5
     returns-5
     index-requires
     array-borrow-prefix-procs

@@ -18,8 +18,8 @@ returns-2 c =
     let c-args = c .before .before .before .args in
     endsHere-other (c-args .text .now) (c-args .at) (omega arith) (c .before .if1 .left) (c .if2 .taken)
 
-sub-if3 : tie.Need-sub-if3
-sub-if3 c = search needs
+add-if3 : tie.Need-add-if3
+add-if3 c = search needs
 
 returns-3 : tie.Need-returns-3
 returns-3 c =
@@ -47,7 +47,7 @@ line-ends-spec =
     shared-slice-read-b
     returns
     returns-2
-    sub-if3
+    add-if3
     returns-3
     add-result
     shared-slice-read-result

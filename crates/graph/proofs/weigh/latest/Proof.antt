@@ -15,79 +15,53 @@ Inv-loop n v arrows first next finish most₀ c₀ most c = LookedAt arrows fini
 abbrev μ-loop : tie.MeasureT-loop
 μ-loop n v arrows first next finish most₀ c₀ most c = c
 
-mul-wide : tie.Need-mul-wide Inv-loop μ-loop
-mul-wide c = search needs
-
-element-copy-out-wide : tie.Need-element-copy-out-wide Inv-loop μ-loop
-element-copy-out-wide c = search needs
-
-wide-requires : tie.Need-wide-requires Inv-loop μ-loop
-wide-requires c κs = search needs
+start-of-requires : tie.Need-start-of-requires Inv-loop μ-loop
+start-of-requires c κs = c .pre .0 .1
 
 loop-holds : tie.Need-loop-holds Inv-loop μ-loop
 loop-holds c =
-    let c-pre = c .before .before .pre in
-    let c-args = c .before .before .args in
-    rw (c .wide .ensures .0) (looked-start _ _ _ _ (c-pre .1 .start (c-args .v) (c-pre .0 .1)))
+    let c-pre = c .before .pre in
+    rw (c .start-of .ensures) (looked-start _ _ _ _ (c-pre .1 .start (c .before .args .v) (c-pre .0 .1)))
 
-sub-from-at : tie.Need-sub-from-at Inv-loop μ-loop
-sub-from-at c = search needs
-
-from-at-requires : tie.Need-from-at-requires Inv-loop μ-loop
-from-at-requires c κs =
-    let c-pre = c .before .before .before .before .pre in
-    let c-loop = c .before .loop in
-    look-at _ _ (c-pre .0 .0) _ _ _ _ _ (c-loop .inv) (c .loop-test .taken) refl
+source-requires : tie.Need-source-requires Inv-loop μ-loop
+source-requires c κs = (omega arith, c .before .loop .inv .cap)
 
 mul-larger : tie.Need-mul-larger Inv-loop μ-loop
 mul-larger c = omega arith
 
 element-copy-out-larger : tie.Need-element-copy-out-larger Inv-loop μ-loop
 element-copy-out-larger c =
-    let c-pre = c .before .before .before .before .before .pre in
+    let c-pre = c .before .before .before .before .pre in
     let c-loop = c .before .before .loop in
-    from-small (c-pre .0 .0) _ _ (look-at _ _ (c-pre .0 .0) _ _ _ _ _ (c-loop .inv) (c .before .loop-test .taken) refl) (c .from-at .ensures .0)
+    from-small (c-pre .0 .0) _ _ (look-at _ _ (c-pre .0 .0) _ _ _ _ _ (c-loop .inv) (c .before .loop-test .taken) refl) (c .source .ensures .0)
 
 larger-requires : tie.Need-larger-requires Inv-loop μ-loop
 larger-requires c κs = search needs
 
-sub-wide : tie.Need-sub-wide Inv-loop μ-loop
-sub-wide c = search needs
-
-mul-wide-2 : tie.Need-mul-wide-2 Inv-loop μ-loop
-mul-wide-2 c =
-    let c-pre = c .before .before .before .before .before .before .before .pre in
+after-requires : tie.Need-after-requires Inv-loop μ-loop
+after-requires c κs =
+    let c-pre = c .before .before .before .before .before .before .pre in
     let c-loop = c .before .before .before .before .loop in
-    omega (arith, c-pre .0 .0 .few, c-loop .inv .cap)
-
-element-copy-out-wide-2 : tie.Need-element-copy-out-wide-2 Inv-loop μ-loop
-element-copy-out-wide-2 c =
-    let c-pre = c .before .before .before .before .before .before .before .pre in
-    let c-loop = c .before .before .before .before .loop in
-    omega (arith, c-pre .0 .0 .few, c-loop .inv .cap)
-
-wide-requires-2 : tie.Need-wide-requires-2 Inv-loop μ-loop
-wide-requires-2 c κs = search needs
+    (omega arith, omega (arith, c-pre .0 .0 .few, c-loop .inv .cap))
 
 loop-less : tie.Need-loop-less Inv-loop μ-loop
 loop-less c =
-    let c-pre = c .before .before .before .before .before .before .before .before .before .pre in
-    let c-loop = c .before .before .before .before .before .before .loop in
-    let c-loop-test = c .before .before .before .before .before .loop-test in
-    omega (arith, c .wide2 .ensures .0, c-pre .1 .step (c-loop .c - 1) (look-at _ _ (c-pre .0 .0) _ _ _ _ _ (c-loop .inv) (c-loop-test .taken) refl) .within)
+    let c-pre = c .before .before .before .before .before .before .before .pre in
+    let c-loop = c .before .before .before .before .before .loop in
+    let c-loop-test = c .before .before .before .before .loop-test in
+    omega (arith, c .after .ensures, c-pre .1 .step (c-loop .c - 1) (look-at _ _ (c-pre .0 .0) _ _ _ _ _ (c-loop .inv) (c-loop-test .taken) refl) .within)
 
 loop-again : tie.Need-loop-again Inv-loop μ-loop
 loop-again c =
-    let c-pre = c .before .before .before .before .before .before .before .before .before .pre in
-    let c-loop = c .before .before .before .before .before .before .loop in
-    let c-loop-test = c .before .before .before .before .before .loop-test in
-    let c-from-at = c .before .before .before .before .from-at in
-    let c-larger = c .before .before .larger in
-    rw (c .wide2 .ensures .0) (looked-more _ _ (c-pre .0 .0) _ _ _ _ _ (c-loop .inv) (c-loop-test .taken) (c-from-at .ensures .0) _ _ (c-larger .ensures) (c-pre .1 .step (c-loop .c - 1) (look-at _ _ (c-pre .0 .0) _ _ _ _ _ (c-loop .inv) (c-loop-test .taken) refl)))
+    let c-pre = c .before .before .before .before .before .before .before .pre in
+    let c-loop = c .before .before .before .before .before .loop in
+    let c-loop-test = c .before .before .before .before .loop-test in
+    let c-source = c .before .before .before .source in
+    rw (c .after .ensures) (looked-more _ _ (c-pre .0 .0) _ _ _ _ _ (c-loop .inv) (c-loop-test .taken) (c-source .ensures .0) _ _ (c .before .larger .ensures) (c-pre .1 .step (c-loop .c - 1) (look-at _ _ (c-pre .0 .0) _ _ _ _ _ (c-loop .inv) (c-loop-test .taken) refl)))
 
 returns : tie.Need-returns Inv-loop μ-loop
 returns c =
-    let c-args = c .before .before .before .before .args in
+    let c-args = c .before .before .before .args in
     let c-loop = c .before .loop in
     let r : LookedAt (now (c-args .arrows)) (now (c-args .finish)) (c-args .v) 0 (c-loop .most) = rw (c .loop-test .left) at (c-loop .inv) in r .latest
 
@@ -97,19 +71,13 @@ latest-spec =
     (tie.spec
     Inv-loop
     μ-loop
-    mul-wide
-    element-copy-out-wide
-    wide-requires
+    start-of-requires
     loop-holds
-    sub-from-at
-    from-at-requires
+    source-requires
     mul-larger
     element-copy-out-larger
     larger-requires
-    sub-wide
-    mul-wide-2
-    element-copy-out-wide-2
-    wide-requires-2
+    after-requires
     loop-less
     loop-again
     returns)

@@ -5,7 +5,7 @@ use native.Mathlib.Omega.{arith}
 use lib.ListN.{length}
 use borrow.Author.Needs.{needs}
 use denote.Ref.{now}
-use Rattle.graph.proofs.Weighed.{Weighed, weighed-start, entry-is, entry-small, sum-fits, weighed-more, weighed-end}
+use Rattle.graph.proofs.Weighed.{Weighed, weighed-start, entry-small, time-fits, weighed-more, weighed-end}
 use Rattle.graph.proofs.weigh.longest.Statement.{statement}
 use Rattle.graph.proofs.weigh.longest.Tie as tie
 
@@ -41,12 +41,7 @@ latest-requires c κs =
     ((c-pre .0 .0, entry-small _ _ _ (c-pre .0 .0) (c-pre .1 .1) _ _ _ (c-loop .inv) (c-loop-test .taken) _ (c .before .wide .ensures .0) .1), c-pre .1 .0)
 
 time-of-requires : tie.Need-time-of-requires Inv-loop μ-loop
-time-of-requires c κs =
-    let c-pre = c .before .before .before .before .before .before .before .pre in
-    let c-loop = c .before .before .before .before .before .loop in
-    let c-loop-test = c .before .before .before .before .loop-test in
-    let c-wide = c .before .before .wide in
-    entry-is _ _ _ (c-pre .0 .0) (c-pre .1 .1) _ _ _ (c-loop .inv) (c-loop-test .taken) _ (c-wide .ensures .0)
+time-of-requires c κs = search needs
 
 add-f : tie.Need-add-f Inv-loop μ-loop
 add-f c =
@@ -54,8 +49,7 @@ add-f c =
     let c-loop = c .before .before .before .before .before .before .loop in
     let c-loop-test = c .before .before .before .before .before .loop-test in
     let c-wide = c .before .before .before .wide in
-    let c-time-of = c .time-of in
-    omega (arith, sum-fits _ _ _ (c-pre .0 .0) (c-pre .1 .1) _ _ _ (c-loop .inv) (c-loop-test .taken) _ (c-wide .ensures .0) _ _ (c .before .latest .ensures) (c-time-of .ensures .0) (c-time-of .ensures .1))
+    omega (arith, time-fits _ _ _ (c-pre .0 .0) (c-pre .1 .1) _ _ _ (c-loop .inv) (c-loop-test .taken) _ (c-wide .ensures .0) _ (c .before .latest .ensures), c .time-of .ensures .2)
 
 mul-finish : tie.Need-mul-finish Inv-loop μ-loop
 mul-finish c =
@@ -95,7 +89,7 @@ loop-again c =
     let c-wide = c .before .before .before .before .wide in
     let c-latest = c .before .before .latest in
     let c-time-of = c .before .time-of in
-    weighed-more _ _ _ (c-pre .0 .0) (c-pre .1 .1) _ _ _ (c-loop .inv) (c-loop-test .taken) _ (c-wide .ensures .0) _ _ (c-latest .ensures) (c-time-of .ensures .0) (c-time-of .ensures .1) _ (c .larger .ensures)
+    weighed-more _ _ _ (c-pre .0 .0) (c-pre .1 .1) _ _ _ (c-loop .inv) (c-loop-test .taken) _ (c-wide .ensures .0) _ (c-latest .ensures) _ (c-time-of .ensures .0) (c-time-of .ensures .2) _ (c .larger .ensures)
 
 returns : tie.Need-returns Inv-loop μ-loop
 returns c =

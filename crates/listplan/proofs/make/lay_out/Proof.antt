@@ -1,6 +1,5 @@
 -- `lay_out`: the tables are made, and the rows then hold the list plan. Assumes nothing.
 use mathlib.Core.Path.{refl}
-use borrow.Author.Needs.{needs}
 use Rattle.listplan.specs.Making.{Job}
 use Rattle.listplan.proofs.Prepared.{roomy, distinct}
 use Rattle.listplan.proofs.Moving.{begins}
@@ -26,13 +25,17 @@ run-requires c κs =
     let job : Job _ _ _ _ _ _ _ = record { graph = c-pre .0; processors = c-pre .1 .0 .0; isOrder = c-pre .1 .0 .1; work = c-pre .1 .0 .2; chains = c-chain .ensures .0; ranks = c-line-up .ensures .0 } in (job, (begins _ _ _ _ _ _ _ _ _ _ _ job (c-chain .ensures .1) (c-line-up .ensures .1 .0) (c-pre .1 .1 .0) (c-pre .1 .1 .1), c-line-up .ensures .1 .1))
 
 same-length : tie.Need-same-length
-same-length c = search needs
+same-length c =
+    let c-procs = c .before .before .before .procs in
+    c-procs .given
 
 same-length-2 : tie.Need-same-length-2
-same-length-2 c = search needs
+same-length-2 c = c .before .starts .given
 
 returns : tie.Need-returns
-returns c = search needs
+returns c =
+    let c-run = c .before .before .before .before .run in
+    c-run .ensures
 
 pub lay-out-spec : {M : Type 1} → statement M
 lay-out-spec =

@@ -2,7 +2,6 @@
 use mathlib.Core.Path.{sym, _∙_}
 use native.Mathlib.Omega.{arith}
 use lib.ListN.{length-set}
-use borrow.Author.Needs.{needs}
 use Rattle.listplan.specs.Making.{Turn}
 use Rattle.listplan.proofs.Moving.{first-turn}
 use Rattle.listplan.proofs.Turns.{toDo, may-count, holder-small, next-due, free, unmarks, turn-counted, turn-released, turn-placed, turn-moved, turn-over}
@@ -10,10 +9,10 @@ use Rattle.listplan.proofs.make.run.Statement.{statement}
 use Rattle.listplan.proofs.make.run.Tie as tie
 
 abbrev Inv-loop : tie.InvT-loop
-Inv-loop times arrows m order first next rank left₀ ready₀ groups₀ procs₀ starts₀ until₀ who₀ t₀ c₀ p₀ q₀ left ready groups procs starts until who t c p q = Turn times arrows order m t c left ready groups until who procs starts p q
+Inv-loop times arrows m order first next rank left₀ ready₀ groups₀ procs₀ starts₀ until₀ who₀ t₀ c₀ p₀ q₀ low₀ left ready groups procs starts until who t c p q low = Turn times arrows order m t c left ready groups until who procs starts p q low
 
 abbrev μ-loop : tie.MeasureT-loop
-μ-loop times arrows m order first next rank left₀ ready₀ groups₀ procs₀ starts₀ until₀ who₀ t₀ c₀ p₀ q₀ left ready groups procs starts until who t c p q = toDo times t left who procs
+μ-loop times arrows m order first next rank left₀ ready₀ groups₀ procs₀ starts₀ until₀ who₀ t₀ c₀ p₀ q₀ low₀ left ready groups procs starts until who t c p q low = toDo times t left who procs
 
 loop-holds : tie.Need-loop-holds Inv-loop μ-loop
 loop-holds c =
@@ -28,7 +27,7 @@ count-off-requires c κs =
     let c-pre = c .before .before .before .before .before .before .before .before .before .pre in
     let c-loop = c .before .before .before .before .loop in
     let c-if1 = c .before .before .before .if1 in
-    let m = may-count _ _ _ _ _ _ _ (c-pre .0) _ _ _ _ _ _ _ _ _ _ _ (c-loop .inv) (c-if1 .taken) in ((m .0, m .1), ((c-pre .0 .ranks .long, c-loop .inv .making .lefts .long, c-loop .inv .making .marks .long, c-loop .inv .grouped .long), (m .2, m .3)))
+    let m = may-count _ _ _ _ _ _ _ (c-pre .0) _ _ _ _ _ _ _ _ _ _ _ _ (c-loop .inv) (c-if1 .taken) in (m .0, ((c-pre .0 .ranks .long, c-loop .inv .making .lefts .long, c-loop .inv .making .marks .long, c-loop .inv .grouped .long), (m .1, m .2)))
 
 sub-wide : tie.Need-sub-wide Inv-loop μ-loop
 sub-wide c = omega arith
@@ -46,7 +45,7 @@ element-copy-out-wide c =
     omega (arith, c-loop .inv .making .cursor .within, c-pre .0 .graph .few)
 
 wide-requires : tie.Need-wide-requires Inv-loop μ-loop
-wide-requires c κs = search needs
+wide-requires c κs = tt
 
 loop-less : tie.Need-loop-less Inv-loop μ-loop
 loop-less c =
@@ -54,7 +53,7 @@ loop-less c =
     let c-loop = c .before .before .before .before .before .before .before .loop in
     let c-if1 = c .before .before .before .before .before .before .if1 in
     let c-count-off = c .before .before .count-off in
-    turn-counted _ _ _ _ _ _ _ (c-pre .0) _ _ _ _ _ _ _ _ _ _ _ (c-loop .inv) _ _ _ _ (c-if1 .taken) (c .wide .ensures .0) (c-count-off .ensures) .1
+    turn-counted _ _ _ _ _ _ _ (c-pre .0) _ _ _ _ _ _ _ _ _ _ _ _ (c-loop .inv) _ _ _ _ _ (c-if1 .taken) (c .wide .ensures .0) (c-count-off .ensures) .1
 
 loop-again : tie.Need-loop-again Inv-loop μ-loop
 loop-again c =
@@ -62,7 +61,7 @@ loop-again c =
     let c-loop = c .before .before .before .before .before .before .before .loop in
     let c-if1 = c .before .before .before .before .before .before .if1 in
     let c-count-off = c .before .before .count-off in
-    turn-counted _ _ _ _ _ _ _ (c-pre .0) _ _ _ _ _ _ _ _ _ _ _ (c-loop .inv) _ _ _ _ (c-if1 .taken) (c .wide .ensures .0) (c-count-off .ensures) .0
+    turn-counted _ _ _ _ _ _ _ (c-pre .0) _ _ _ _ _ _ _ _ _ _ _ _ (c-loop .inv) _ _ _ _ _ (c-if1 .taken) (c .wide .ensures .0) (c-count-off .ensures) .0
 
 mul-wide-2 : tie.Need-mul-wide-2 Inv-loop μ-loop
 mul-wide-2 c =
@@ -75,24 +74,24 @@ array-read-wide c =
     omega (arith, c .if2 .taken, c-pre .0 .processors .high)
 
 wide-requires-2 : tie.Need-wide-requires-2 Inv-loop μ-loop
-wide-requires-2 c κs = search needs
+wide-requires-2 c κs = tt
 
 mul-wide-3 : tie.Need-mul-wide-3 Inv-loop μ-loop
 mul-wide-3 c =
     let c-pre = c .before .before .before .before .before .before .before .before .pre in
     let c-loop = c .before .before .before .loop in
     let c-if1 = c .before .before .if1 in
-    omega (arith, holder-small _ _ _ _ _ _ _ (c-pre .0) _ _ _ _ _ _ _ _ _ _ _ (c-loop .inv) (c-if1 .left) (c .before .if2 .taken) _ (c .wide2 .ensures .0))
+    omega (arith, holder-small _ _ _ _ _ _ _ (c-pre .0) _ _ _ _ _ _ _ _ _ _ _ _ (c-loop .inv) (c-if1 .left) (c .before .if2 .taken) _ (c .wide2 .ensures .0))
 
 element-copy-out-wide-2 : tie.Need-element-copy-out-wide-2 Inv-loop μ-loop
 element-copy-out-wide-2 c =
     let c-pre = c .before .before .before .before .before .before .before .before .pre in
     let c-loop = c .before .before .before .loop in
     let c-if1 = c .before .before .if1 in
-    holder-small _ _ _ _ _ _ _ (c-pre .0) _ _ _ _ _ _ _ _ _ _ _ (c-loop .inv) (c-if1 .left) (c .before .if2 .taken) _ (c .wide2 .ensures .0)
+    holder-small _ _ _ _ _ _ _ (c-pre .0) _ _ _ _ _ _ _ _ _ _ _ _ (c-loop .inv) (c-if1 .left) (c .before .if2 .taken) _ (c .wide2 .ensures .0)
 
 wide-requires-3 : tie.Need-wide-requires-3 Inv-loop μ-loop
-wide-requires-3 c κs = search needs
+wide-requires-3 c κs = tt
 
 mul-who : tie.Need-mul-who Inv-loop μ-loop
 mul-who c =
@@ -119,7 +118,7 @@ array-write-until c =
     omega (arith, c-if2 .taken, c-pre .0 .processors .high)
 
 add-first-due : tie.Need-add-first-due Inv-loop μ-loop
-add-first-due c = search needs
+add-first-due c = omega arith
 
 first-due-requires : tie.Need-first-due-requires Inv-loop μ-loop
 first-due-requires c κs =
@@ -127,7 +126,7 @@ first-due-requires c κs =
     let c-loop = c .before .before .before .before .before .before .loop in
     let c-if1 = c .before .before .before .before .before .if1 in
     let c-if2 = c .before .before .before .before .if2 in
-    (c-pre .0 .processors, simp length-set (c-loop .inv .making .holders .long-until), next-due _ _ _ _ _ _ _ (c-pre .0) _ _ _ _ _ _ _ _ _ _ _ (c-loop .inv) (c-if1 .left) (c-if2 .taken))
+    (c-pre .0 .processors, simp length-set (c-loop .inv .making .holders .long-until), next-due _ _ _ _ _ _ _ (c-pre .0) _ _ _ _ _ _ _ _ _ _ _ _ (c-loop .inv) (c-if1 .left) (c-if2 .taken))
 
 loop-less-2 : tie.Need-loop-less-2 Inv-loop μ-loop
 loop-less-2 c =
@@ -137,7 +136,7 @@ loop-less-2 c =
     let c-if2 = c .before .before .before .before .before .if2 in
     let c-wide2 = c .before .before .before .before .wide2 in
     let c-wide3 = c .before .before .wide3 in
-    turn-released _ _ _ _ _ _ _ (c-pre .0) _ _ _ _ _ _ _ _ _ _ _ (c-loop .inv) (c-if1 .left) (c-if2 .taken) _ _ _ (c-wide2 .ensures .0) (c-wide3 .ensures .0) (c .first-due .ensures) .1
+    turn-released _ _ _ _ _ _ _ (c-pre .0) _ _ _ _ _ _ _ _ _ _ _ _ (c-loop .inv) (c-if1 .left) (c-if2 .taken) _ _ _ (c-wide2 .ensures .0) (c-wide3 .ensures .0) (c .first-due .ensures) .1
 
 loop-again-2 : tie.Need-loop-again-2 Inv-loop μ-loop
 loop-again-2 c =
@@ -147,7 +146,7 @@ loop-again-2 c =
     let c-if2 = c .before .before .before .before .before .if2 in
     let c-wide2 = c .before .before .before .before .wide2 in
     let c-wide3 = c .before .before .wide3 in
-    turn-released _ _ _ _ _ _ _ (c-pre .0) _ _ _ _ _ _ _ _ _ _ _ (c-loop .inv) (c-if1 .left) (c-if2 .taken) _ _ _ (c-wide2 .ensures .0) (c-wide3 .ensures .0) (c .first-due .ensures) .0
+    turn-released _ _ _ _ _ _ _ (c-pre .0) _ _ _ _ _ _ _ _ _ _ _ _ (c-loop .inv) (c-if1 .left) (c-if2 .taken) _ _ _ (c-wide2 .ensures .0) (c-wide3 .ensures .0) (c .first-due .ensures) .0
 
 first-free-requires : tie.Need-first-free-requires Inv-loop μ-loop
 first-free-requires c κs =
@@ -159,7 +158,7 @@ next-to-go-requires : tie.Need-next-to-go-requires Inv-loop μ-loop
 next-to-go-requires c κs =
     let c-pre = c .before .before .before .before .before .before .before .before .before .before .before .pre in
     let c-loop = c .before .before .before .before .before .before .loop in
-    (omega (arith, c-pre .0 .isOrder .whole, c-pre .0 .graph .count .high), c-loop .inv .making .marks .long, c-loop .inv .grouped)
+    (omega (arith, c-pre .0 .isOrder .whole, c-pre .0 .graph .count .high), c-loop .inv .making .marks .long, c-loop .inv .grouped, c-loop .inv .unmarked)
 
 at-place-requires : tie.Need-at-place-requires Inv-loop μ-loop
 at-place-requires c κs = c .if3 .taken
@@ -174,7 +173,7 @@ seat-requires c κs =
     let c-if2 = c .before .before .before .before .before .before .before .before .before .before .before .if2 in
     let c-next-to-go = c .before .before .before .before .before .before .next-to-go in
     let c-first-free = c .before .before .before .before .before .before .before .before .before .first-free in
-    let l = c-if3 .taken in ((rw (c-at-place .ensures .0) (c-pre .0 .isOrder .each _ l), c-pre .0 .graph .count .high, omega (arith, free _ _ _ _ _ _ _ (c-pre .0) _ _ _ _ _ _ _ _ _ _ _ (c-loop .inv) (c-if1 .left) (c-if2 .left) _ _ (c-next-to-go .ensures) (c-first-free .ensures) l, c-pre .0 .processors .high), omega (arith, c-loop .inv .making .early, c-pre .0 .work)), (c-loop .inv .making .sizes, c-loop .inv .making .holders .long-until, c-loop .inv .making .holders .long-who))
+    let l = c-if3 .taken in ((rw (c-at-place .ensures .0) (c-pre .0 .isOrder .each _ l), c-pre .0 .graph .count .high, omega (arith, free _ _ _ _ _ _ _ (c-pre .0) _ _ _ _ _ _ _ _ _ _ _ _ (c-loop .inv) (c-if1 .left) (c-if2 .left) _ _ (c-next-to-go .ensures) (c-first-free .ensures) l, c-pre .0 .processors .high), omega (arith, c-loop .inv .making .early, c-pre .0 .work)), (c-loop .inv .making .sizes, c-loop .inv .making .holders .long-until, c-loop .inv .making .holders .long-who))
 
 unmark-requires : tie.Need-unmark-requires Inv-loop μ-loop
 unmark-requires c κs =
@@ -185,7 +184,13 @@ unmark-requires c κs =
     let c-if2 = c .before .before .before .before .before .before .before .before .before .before .before .before .before .before .before .before .before .before .if2 in
     let c-next-to-go = c .before .before .before .before .before .before .before .before .before .before .before .before .before .next-to-go in
     let c-first-free = c .before .before .before .before .before .before .before .before .before .before .before .before .before .before .before .before .first-free in
-    let l = c-if3 .taken in (omega (arith, l, c-pre .0 .isOrder .whole, c-pre .0 .graph .count .high), c-loop .inv .making .marks .long, c-loop .inv .grouped, unmarks _ _ _ _ _ _ _ (c-pre .0) _ _ _ _ _ _ _ _ _ _ _ (c-loop .inv) (c-if1 .left) (c-if2 .left) _ _ (c-next-to-go .ensures) (c-first-free .ensures) l)
+    let l = c-if3 .taken in (omega (arith, l, c-pre .0 .isOrder .whole, c-pre .0 .graph .count .high), c-loop .inv .making .marks .long, c-loop .inv .grouped, unmarks _ _ _ _ _ _ _ (c-pre .0) _ _ _ _ _ _ _ _ _ _ _ _ (c-loop .inv) (c-if1 .left) (c-if2 .left) _ _ (c-next-to-go .ensures) (c-first-free .ensures) l)
+
+add-low : tie.Need-add-low Inv-loop μ-loop
+add-low c =
+    let c-if3 = c .before .before .before .before .before .before .before .before .before .before .before .before .before .if3 in
+    let c-pre = c .before .before .before .before .before .before .before .before .before .before .before .before .before .before .before .before .before .before .before .before .before .before .before .before .before .before .pre in
+    omega (arith, c-if3 .taken, c-pre .0 .isOrder .whole, c-pre .0 .graph .count .high)
 
 loop-less-3 : tie.Need-loop-less-3 Inv-loop μ-loop
 loop-less-3 c =
@@ -198,7 +203,7 @@ loop-less-3 c =
     let c-if3 = c .before .before .before .before .before .before .before .before .before .before .before .before .before .if3 in
     let c-at-place = c .before .before .before .before .before .before .before .before .before .before .before .before .at-place in
     let c-seat = c .before .before .before .before .before .before .before .seat in
-    turn-placed _ _ _ _ _ _ _ (c-pre .0) _ _ _ _ _ _ _ _ _ _ _ (c-loop .inv) (c-if1 .left) (c-if2 .left) _ _ (c-next-to-go .ensures) (c-first-free .ensures) _ _ _ _ _ _ _ (c .unmark .ensures) (c-if3 .taken) (c-at-place .ensures .0) (c-seat .ensures .0 .0) (c-seat .ensures .0 .1) (c-seat .ensures .1 .0) (c-seat .ensures .1 .1) .1
+    turn-placed _ _ _ _ _ _ _ (c-pre .0) _ _ _ _ _ _ _ _ _ _ _ _ (c-loop .inv) (c-if1 .left) (c-if2 .left) _ _ (c-next-to-go .ensures) (c-first-free .ensures) _ _ _ _ _ _ _ (c .unmark .ensures) (c-if3 .taken) (c-at-place .ensures .0) (c-seat .ensures .0 .0) (c-seat .ensures .0 .1) (c-seat .ensures .1 .0) (c-seat .ensures .1 .1) .1
 
 loop-again-3 : tie.Need-loop-again-3 Inv-loop μ-loop
 loop-again-3 c =
@@ -211,7 +216,7 @@ loop-again-3 c =
     let c-if3 = c .before .before .before .before .before .before .before .before .before .before .before .before .before .if3 in
     let c-at-place = c .before .before .before .before .before .before .before .before .before .before .before .before .at-place in
     let c-seat = c .before .before .before .before .before .before .before .seat in
-    turn-placed _ _ _ _ _ _ _ (c-pre .0) _ _ _ _ _ _ _ _ _ _ _ (c-loop .inv) (c-if1 .left) (c-if2 .left) _ _ (c-next-to-go .ensures) (c-first-free .ensures) _ _ _ _ _ _ _ (c .unmark .ensures) (c-if3 .taken) (c-at-place .ensures .0) (c-seat .ensures .0 .0) (c-seat .ensures .0 .1) (c-seat .ensures .1 .0) (c-seat .ensures .1 .1) .0
+    turn-placed _ _ _ _ _ _ _ (c-pre .0) _ _ _ _ _ _ _ _ _ _ _ _ (c-loop .inv) (c-if1 .left) (c-if2 .left) _ _ (c-next-to-go .ensures) (c-first-free .ensures) _ _ _ _ _ _ _ (c .unmark .ensures) (c-if3 .taken) (c-at-place .ensures .0) (c-seat .ensures .0 .0) (c-seat .ensures .0 .1) (c-seat .ensures .1 .0) (c-seat .ensures .1 .1) .0
 
 soonest-requires : tie.Need-soonest-requires Inv-loop μ-loop
 soonest-requires c κs =
@@ -240,7 +245,7 @@ returns c =
     let c-next-to-go = c .before .before .before .before .next-to-go in
     let c-first-free = c .before .before .before .before .before .before .before .first-free in
     let c-if3 = c .before .before .before .if3 in
-    (turn-over _ _ _ _ _ _ _ (c-pre .0) _ _ _ _ _ _ _ _ _ _ _ (c-loop .inv) (c-if1 .left) (c-if2 .left) _ _ (c-next-to-go .ensures) (c-first-free .ensures) (c-if3 .left) _ (c .before .soonest .ensures) (c .if4 .taken), c-loop .inv .making .sizes)
+    (turn-over _ _ _ _ _ _ _ (c-pre .0) _ _ _ _ _ _ _ _ _ _ _ _ (c-loop .inv) (c-if1 .left) (c-if2 .left) _ _ (c-next-to-go .ensures) (c-first-free .ensures) (c-if3 .left) _ (c .before .soonest .ensures) (c .if4 .taken), c-loop .inv .making .sizes)
 
 first-due-requires-2 : tie.Need-first-due-requires-2 Inv-loop μ-loop
 first-due-requires-2 c κs =
@@ -259,7 +264,7 @@ loop-less-4 c =
     let c-if3 = c .before .before .before .before .before .if3 in
     let c-soonest = c .before .before .before .soonest in
     let c-if4 = c .before .before .if4 in
-    turn-moved _ _ _ _ _ _ _ (c-pre .0) _ _ _ _ _ _ _ _ _ _ _ (c-loop .inv) (c-if1 .left) (c-if2 .left) _ _ (c-next-to-go .ensures) (c-first-free .ensures) (c-if3 .left) _ (c-soonest .ensures) _ (c-if4 .left) (c .first-due2 .ensures) .1
+    turn-moved _ _ _ _ _ _ _ (c-pre .0) _ _ _ _ _ _ _ _ _ _ _ _ (c-loop .inv) (c-if1 .left) (c-if2 .left) _ _ (c-next-to-go .ensures) (c-first-free .ensures) (c-if3 .left) _ (c-soonest .ensures) _ (c-if4 .left) (c .first-due2 .ensures) .1
 
 loop-again-4 : tie.Need-loop-again-4 Inv-loop μ-loop
 loop-again-4 c =
@@ -272,7 +277,7 @@ loop-again-4 c =
     let c-if3 = c .before .before .before .before .before .if3 in
     let c-soonest = c .before .before .before .soonest in
     let c-if4 = c .before .before .if4 in
-    turn-moved _ _ _ _ _ _ _ (c-pre .0) _ _ _ _ _ _ _ _ _ _ _ (c-loop .inv) (c-if1 .left) (c-if2 .left) _ _ (c-next-to-go .ensures) (c-first-free .ensures) (c-if3 .left) _ (c-soonest .ensures) _ (c-if4 .left) (c .first-due2 .ensures) .0
+    turn-moved _ _ _ _ _ _ _ (c-pre .0) _ _ _ _ _ _ _ _ _ _ _ _ (c-loop .inv) (c-if1 .left) (c-if2 .left) _ _ (c-next-to-go .ensures) (c-first-free .ensures) (c-if3 .left) _ (c-soonest .ensures) _ (c-if4 .left) (c .first-due2 .ensures) .0
 
 pub run-spec : {M : Type 1} → statement M
 run-spec =
@@ -308,6 +313,7 @@ run-spec =
     at-place-requires
     seat-requires
     unmark-requires
+    add-low
     loop-less-3
     loop-again-3
     soonest-requires

@@ -41,14 +41,12 @@ slice-write-starts c =
     omega (arith, c-pre .0 .0, c-pre .1 .0 .starts)
 
 time-of-requires : tie.Need-time-of-requires
-time-of-requires c κs =
-    let c-pre = c .before .before .before .pre in
-    c-pre .0 .0
+time-of-requires c κs = tt
 
 add-until : tie.Need-add-until
 add-until c =
     let c-pre = c .before .before .before .before .pre in
-    omega (arith, c-pre .0 .3, c .time-of .ensures .1)
+    omega (arith, c-pre .0 .3, c .time-of .ensures .2)
 
 mul-until : tie.Need-mul-until
 mul-until c =
@@ -60,19 +58,19 @@ element-write-until c =
     let c-pre = c .before .before .before .before .pre in
     omega (arith, c-pre .0 .2)
 
-narrow-requires : tie.Need-narrow-requires
-narrow-requires c κs =
+cast-who : tie.Need-cast-who
+cast-who c =
     let c-pre = c .before .before .before .before .pre in
     omega (arith, c-pre .0 .0 .high, c-pre .0 .1)
 
 mul-who : tie.Need-mul-who
 mul-who c =
-    let c-pre = c .before .before .before .before .before .pre in
+    let c-pre = c .before .before .before .before .pre in
     omega (arith, c-pre .0 .2)
 
 element-write-who : tie.Need-element-write-who
 element-write-who c =
-    let c-pre = c .before .before .before .before .before .pre in
+    let c-pre = c .before .before .before .before .pre in
     omega (arith, c-pre .0 .2)
 
 same-length : tie.Need-same-length
@@ -82,7 +80,9 @@ same-length-2 : tie.Need-same-length-2
 same-length-2 c = search needs
 
 returns : tie.Need-returns
-returns c = ((refl, refl), rw (c .before .time-of .ensures .0, c .narrow .ensures) (refl, refl))
+returns c =
+    let c-pre = c .before .before .before .before .pre in
+    ((refl, refl), rw (c .time-of .ensures .0 (c-pre .0 .0)) (refl, refl))
 
 pub seat-spec : {M : Type 1} → statement M
 seat-spec =
@@ -99,7 +99,7 @@ seat-spec =
     add-until
     mul-until
     element-write-until
-    narrow-requires
+    cast-who
     mul-who
     element-write-who
     same-length

@@ -2,7 +2,6 @@
 use Prim.Native.Nat.{_-_}
 use native.Mathlib.Omega.{arith}
 use lib.ListN.{length}
-use borrow.Author.Needs.{needs}
 use Rattle.listplan.proofs.Seen.{Seen, seen-none, seen-more, twice, seen-all}
 use Rattle.listplan.proofs.order.is_order.Statement.{statement}
 use Rattle.listplan.proofs.order.is_order.Tie as tie
@@ -53,10 +52,10 @@ array-write-seen c =
     omega (arith, c-pre)
 
 add-x : tie.Need-add-x Inv-loop μ-loop
-add-x c = search needs
+add-x c = omega arith
 
 loop-less : tie.Need-loop-less Inv-loop μ-loop
-loop-less c = search needs
+loop-less c = omega arith
 
 loop-again : tie.Need-loop-again Inv-loop μ-loop
 loop-again c =

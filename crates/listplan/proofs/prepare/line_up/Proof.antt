@@ -3,7 +3,6 @@ use mathlib.Core.Path.{_≡_}
 use Prim.Native.Nat.{_-_, _≤_, _<_}
 use native.Mathlib.Omega.{arith}
 use lib.ListN.{length}
-use borrow.Author.Needs.{needs}
 use denote.Ref.{now}
 use Rattle.listplan.specs.Tables.{Ranks}
 use Rattle.listplan.proofs.LinedUp.{ranks-none, ranks-more, Lined, lined-none, lined-more, lined-all}
@@ -22,49 +21,48 @@ small c = omega (arith, c .at-place .ensures .0, c .before .before .before .befo
 loop-holds : tie.Need-loop-holds Inv-loop μ-loop
 loop-holds c =
     let c-pre = c .before .pre in
-    (search needs, ranks-none _ _ (c-pre .1 .1), lined-none _ _ _ _ (c-pre .1 .2) (c-pre .1 .3))
+    (omega arith, ranks-none _ _ (c-pre .1 .1), lined-none _ _ _ _ (c-pre .1 .2) (c-pre .1 .3))
 
 at-place-requires : tie.Need-at-place-requires Inv-loop μ-loop
 at-place-requires c κs = c .loop-test .taken
 
-narrow-requires : tie.Need-narrow-requires Inv-loop μ-loop
-narrow-requires c κs =
+cast-rank : tie.Need-cast-rank Inv-loop μ-loop
+cast-rank c =
     let c-pre = c .before .before .before .before .pre in
     omega (arith, c-pre .0 .few)
 
 mul-rank : tie.Need-mul-rank Inv-loop μ-loop
-mul-rank c = omega (arith, small (c .before))
+mul-rank c = omega (arith, small c)
 
 element-write-rank : tie.Need-element-write-rank Inv-loop μ-loop
-element-write-rank c = small (c .before)
+element-write-rank c = small c
 
 mul-mark : tie.Need-mul-mark Inv-loop μ-loop
-mul-mark c = omega (arith, small (c .before .before .before))
+mul-mark c = omega (arith, small (c .before .before))
 
 element-copy-out-mark : tie.Need-element-copy-out-mark Inv-loop μ-loop
-element-copy-out-mark c = small (c .before .before .before)
+element-copy-out-mark c = small (c .before .before)
 
 mark-requires : tie.Need-mark-requires Inv-loop μ-loop
 mark-requires c κs =
-    let c-pre = c .before .before .before .before .before .before .before .before .pre in
-    let c-loop-test = c .before .before .before .before .before .loop-test in
-    let c-loop = c .before .before .before .before .before .before .loop in
+    let c-pre = c .before .before .before .before .before .before .before .pre in
+    let c-loop-test = c .before .before .before .before .loop-test in
+    let c-loop = c .before .before .before .before .before .loop in
     (omega (arith, c-pre .0 .few, c-loop-test .taken), c-loop .inv .2 .sources .long, c-loop .inv .2 .long)
 
 add-x : tie.Need-add-x Inv-loop μ-loop
-add-x c = search needs
+add-x c = omega arith
 
 loop-less : tie.Need-loop-less Inv-loop μ-loop
-loop-less c = search needs
+loop-less c = omega arith
 
 loop-again : tie.Need-loop-again Inv-loop μ-loop
 loop-again c =
-    let c-pre = c .before .before .before .before .before .before .before .before .before .pre in
-    let c-loop-test = c .before .before .before .before .before .before .loop-test in
-    let c-at-place = c .before .before .before .before .before .at-place in
-    let c-narrow = c .before .before .before .before .narrow in
-    let c-loop = c .before .before .before .before .before .before .before .loop in
-    (omega arith, ranks-more _ _ _ _ _ (c-pre .0) (c-loop-test .taken) (c-at-place .ensures .0) (c-narrow .ensures) (c-loop .inv .1), lined-more _ _ _ _ _ _ _ _ (c-pre .0) (c-loop-test .taken) (c-at-place .ensures .0) (c-loop .inv .2) (c .mark .ensures))
+    let c-pre = c .before .before .before .before .before .before .before .before .pre in
+    let c-loop-test = c .before .before .before .before .before .loop-test in
+    let c-at-place = c .before .before .before .before .at-place in
+    let c-loop = c .before .before .before .before .before .before .loop in
+    (omega arith, ranks-more _ _ _ _ (c-pre .0) (c-loop-test .taken) (c-at-place .ensures .0) (c-loop .inv .1), lined-more _ _ _ _ _ _ _ _ (c-pre .0) (c-loop-test .taken) (c-at-place .ensures .0) (c-loop .inv .2) (c .mark .ensures))
 
 returns : tie.Need-returns Inv-loop μ-loop
 returns c =
@@ -80,7 +78,7 @@ line-up-spec =
     μ-loop
     loop-holds
     at-place-requires
-    narrow-requires
+    cast-rank
     mul-rank
     element-write-rank
     mul-mark

@@ -1,7 +1,6 @@
 -- `mark`: a place is marked, and its group with it, where nothing holds its subtask back. Assumes nothing.
 use mathlib.Core.Path.{refl}
 use native.Mathlib.Omega.{arith}
-use borrow.Author.Needs.{needs}
 use Rattle.listplan.proofs.prepare.mark.Statement.{statement}
 use Rattle.listplan.proofs.prepare.mark.Tie as tie
 
@@ -9,7 +8,7 @@ returns : tie.Need-returns
 returns c = record { ifSo = λ z. absurd (c .if1 .taken z); ifNot = λ _. (refl, refl) }
 
 element-write-ready : tie.Need-element-write-ready
-element-write-ready c = search needs
+element-write-ready c = omega arith
 
 element-write-groups : tie.Need-element-write-groups
 element-write-groups c = omega (arith, c .before .pre .0)

@@ -1,7 +1,6 @@
 -- `first_due`: the first processor with an end by t. Assumes nothing.
 use Prim.Native.Nat.{_-_}
 use native.Mathlib.Omega.{arith}
-use borrow.Author.Needs.{needs}
 use Rattle.listplan.specs.Making.{NoneDue}
 use Rattle.listplan.proofs.Scanned.{none-due-more, first-due-here, first-due-none}
 use Rattle.listplan.proofs.scan.first_due.Statement.{statement}
@@ -32,10 +31,10 @@ returns c =
     first-due-here (c-loop .inv) (omega (arith, c .if1 .taken))
 
 add-p : tie.Need-add-p Inv-loop μ-loop
-add-p c = search needs
+add-p c = omega arith
 
 loop-less : tie.Need-loop-less Inv-loop μ-loop
-loop-less c = search needs
+loop-less c = omega arith
 
 loop-again : tie.Need-loop-again Inv-loop μ-loop
 loop-again c =

@@ -1,7 +1,6 @@
 -- `first_free`: the first processor that nobody is on. Assumes nothing.
 use Prim.Native.Nat.{_-_}
 use native.Mathlib.Omega.{arith}
-use borrow.Author.Needs.{needs}
 use Rattle.listplan.specs.Making.{AllBusy}
 use Rattle.listplan.proofs.Scanned.{all-busy-more, first-free-here, first-free-none}
 use Rattle.listplan.proofs.scan.first_free.Statement.{statement}
@@ -32,10 +31,10 @@ returns c =
     first-free-here (c-loop .inv) (c .if1 .taken)
 
 add-q : tie.Need-add-q Inv-loop μ-loop
-add-q c = search needs
+add-q c = omega arith
 
 loop-less : tie.Need-loop-less Inv-loop μ-loop
-loop-less c = search needs
+loop-less c = omega arith
 
 loop-again : tie.Need-loop-again Inv-loop μ-loop
 loop-again c =

@@ -1,19 +1,18 @@
 -- `first_marked`: the first place of the order that is marked. Assumes nothing.
 use Prim.Native.Nat.{_-_}
 use native.Mathlib.Omega.{arith}
-use borrow.Author.Needs.{needs}
-use Rattle.listplan.proofs.Scanned.{Passed, passed-none, passed-more, passed-group, first-marked-here, first-marked-none}
+use Rattle.listplan.proofs.Scanned.{Passed, passed-low, passed-more, passed-group, first-marked-here, first-marked-none}
 use Rattle.listplan.proofs.scan.first_marked.Statement.{statement}
 use Rattle.listplan.proofs.scan.first_marked.Tie as tie
 
 abbrev Inv-loop : tie.InvT-loop
-Inv-loop ready groups n x₀ x = Passed ready x
+Inv-loop ready groups low n x₀ x = Passed ready x
 
 abbrev μ-loop : tie.MeasureT-loop
-μ-loop ready groups n x₀ x = n - x
+μ-loop ready groups low n x₀ x = n - x
 
 loop-holds : tie.Need-loop-holds Inv-loop μ-loop
-loop-holds c = passed-none _
+loop-holds c = passed-low (c .pre .3)
 
 element-copy-out-if1 : tie.Need-element-copy-out-if1 Inv-loop μ-loop
 element-copy-out-if1 c =
@@ -57,10 +56,10 @@ returns c =
     first-marked-here (c-pre .0) (c-loop-test .taken) (c-loop .inv) (c .if2 .taken)
 
 add-x-2 : tie.Need-add-x-2 Inv-loop μ-loop
-add-x-2 c = search needs
+add-x-2 c = omega arith
 
 loop-less-2 : tie.Need-loop-less-2 Inv-loop μ-loop
-loop-less-2 c = search needs
+loop-less-2 c = omega arith
 
 loop-again-2 : tie.Need-loop-again-2 Inv-loop μ-loop
 loop-again-2 c =

@@ -2,7 +2,6 @@
 use mathlib.Core.Path.{_≡_}
 use Prim.Native.Nat.{_-_, _≤_}
 use native.Mathlib.Omega.{arith}
-use borrow.Author.Needs.{needs}
 use Rattle.listplan.specs.Making.{Soonest}
 use Rattle.listplan.proofs.Scanned.{soonest-none, soonest-more}
 use Rattle.listplan.proofs.scan.soonest.Statement.{statement}
@@ -18,19 +17,19 @@ loop-holds : tie.Need-loop-holds Inv-loop μ-loop
 loop-holds c = (omega arith, soonest-none _)
 
 mul-sooner : tie.Need-mul-sooner Inv-loop μ-loop
-mul-sooner c = search needs
+mul-sooner c = omega arith
 
 element-copy-out-sooner : tie.Need-element-copy-out-sooner Inv-loop μ-loop
-element-copy-out-sooner c = search needs
+element-copy-out-sooner c = omega arith
 
 sooner-requires : tie.Need-sooner-requires Inv-loop μ-loop
-sooner-requires c κs = search needs
+sooner-requires c κs = tt
 
 add-k : tie.Need-add-k Inv-loop μ-loop
-add-k c = search needs
+add-k c = omega arith
 
 loop-less : tie.Need-loop-less Inv-loop μ-loop
-loop-less c = search needs
+loop-less c = omega arith
 
 loop-again : tie.Need-loop-again Inv-loop μ-loop
 loop-again c =

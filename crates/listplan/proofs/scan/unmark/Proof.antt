@@ -2,7 +2,6 @@
 use mathlib.Core.Path.{refl}
 use Prim.Native.Nat.{_-_}
 use native.Mathlib.Omega.{arith}
-use borrow.Author.Needs.{needs}
 use Rattle.listplan.proofs.Scanned.{Unmarking, unmarking-none, unmarking-more, unmarked-more, unmarked-last}
 use Rattle.listplan.proofs.scan.unmark.Statement.{statement}
 use Rattle.listplan.proofs.scan.unmark.Tie as tie
@@ -14,7 +13,7 @@ abbrev μ-loop : tie.MeasureT-loop
 μ-loop ready groups x end y₀ y = end - y
 
 element-write-ready : tie.Need-element-write-ready Inv-loop μ-loop
-element-write-ready c = search needs
+element-write-ready c = omega arith
 
 mul-end : tie.Need-mul-end Inv-loop μ-loop
 mul-end c = omega (arith, c .pre .0)
@@ -23,7 +22,7 @@ add-end : tie.Need-add-end Inv-loop μ-loop
 add-end c = omega (arith, c .pre .0)
 
 add-y : tie.Need-add-y Inv-loop μ-loop
-add-y c = search needs
+add-y c = omega arith
 
 loop-holds : tie.Need-loop-holds Inv-loop μ-loop
 loop-holds c = unmarking-none _ _
@@ -45,7 +44,7 @@ add-y-2 c =
     omega (arith, c-loop-test .taken, c-pre .0)
 
 loop-less : tie.Need-loop-less Inv-loop μ-loop
-loop-less c = search needs
+loop-less c = omega arith
 
 loop-again : tie.Need-loop-again Inv-loop μ-loop
 loop-again c =

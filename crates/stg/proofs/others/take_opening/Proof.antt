@@ -1,15 +1,16 @@
 use mathlib.Core.Path.{_≡_}
 use mathlib.Core.List.{List}
 use Prim.Native.Nat.{ℕ}
+use native.Mathlib.Omega.{arith}
 use borrow.Author.Needs.{needs}
 use Rattle.stg.specs.Told.{FirstOf}
-use Rattle.stg.specs.declared.fields.Taken.{Taken}
+use Rattle.stg.specs.declared.others.First.{First}
 use Rattle.stg.proofs.OneLine.{dummied}
 use Rattle.stg.proofs.Whole.{entry-refused, opened}
 use Rattle.stg.proofs.others.take_opening.Statement.{statement}
 use Rattle.stg.proofs.others.take_opening.Tie as tie
 
-firsts : (text : List ℕ) (r x : Taken) → r ≡ x → FirstOf text r → FirstOf text x
+firsts : (text : List ℕ) (r x : First) → r ≡ x → FirstOf text r → FirstOf text x
 firsts text r x e h = rw e at h
 
 first-line-requires : tie.Need-first-line-requires
@@ -25,7 +26,7 @@ dummy-line-requires : tie.Need-dummy-line-requires
 dummy-line-requires c κs =
     let c-args = c .before .before .before .before .before .args in
     let c-first-line = c .before .before .before .first-line in
-    firsts (c-args .text .now) _ _ (c .before .n .given .1) (c-first-line .ensures) .inside
+    (firsts (c-args .text .now) _ _ (c .before .n .given .1) (c-first-line .ensures) .inside, omega arith)
 
 enum-known-refusal : tie.Need-enum-known-refusal
 enum-known-refusal c = search needs

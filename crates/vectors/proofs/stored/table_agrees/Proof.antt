@@ -23,7 +23,7 @@ array-share-prefix-all : tie.Need-array-share-prefix-all Inv-loop μ-loop
 array-share-prefix-all c = search needs
 
 slice-aggregate-order : tie.Need-slice-aggregate-order Inv-loop μ-loop
-slice-aggregate-order c = sym (length-take-le _ _ (omega (arith, c .before .before .in-turn .ensures)))
+slice-aggregate-order c = sym (length-take-le _ _ (omega (arith, c .before .before .in-turn .ensures .0)))
 
 loop-holds : tie.Need-loop-holds Inv-loop μ-loop
 loop-holds c = search needs

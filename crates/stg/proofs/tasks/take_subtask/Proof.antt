@@ -1,0 +1,82 @@
+use Prim.Native.Nat.{_+_}
+use native.Mathlib.Omega.{arith}
+use borrow.Author.Needs.{needs}
+use Rattle.stg.proofs.OneLine.{tasked}
+use Rattle.stg.proofs.Laid.{subtask-bad, subtask-long, subtask-is}
+use Rattle.stg.proofs.tasks.take_subtask.Statement.{statement}
+use Rattle.stg.proofs.tasks.take_subtask.Tie as tie
+
+add-task-line : tie.Need-add-task-line
+add-task-line c = omega arith
+
+task-line-requires : tie.Need-task-line-requires
+task-line-requires c κs = (omega arith, omega arith, omega arith)
+
+enum-known-t : tie.Need-enum-known-t
+enum-known-t c = search needs
+
+enum-told : tie.Need-enum-told
+enum-told c = search needs
+
+same-length : tie.Need-same-length
+same-length c = search needs
+
+returns : tie.Need-returns
+returns c =
+    let c-args = c .before .before .before .before .before .before .before .args in
+    let c-task-line = c .before .before .before .task-line in
+    subtask-bad (c-args .text .now) (c-args .at) (c-args .j) (tasked (c-args .text .now) (c-args .at) (c-args .j + 1) (c-args .arrows .now) (c-args .a) _ _ _ (c .enum-told .given .1) (c-task-line .ensures))
+
+same-length-2 : tie.Need-same-length-2
+same-length-2 c = search needs
+
+returns-2 : tie.Need-returns-2
+returns-2 c =
+    let c-args = c .before .before .before .before .before .before .before .before .before .args in
+    let c-t = c .before .before .t in
+    let c-task-line = c .before .before .before .before .before .task-line in
+    let h = tasked (c-args .text .now) (c-args .at) (c-args .j + 1) (c-args .arrows .now) (c-args .a) _ _ _ (c-t .given .1) (c-task-line .ensures) in
+    subtask-long (c-args .text .now) (c-args .at) (c-args .j) (c-args .arrows .now) (c-args .a) _ _ _ _ _ h (c .if1 .taken)
+
+narrow-requires : tie.Need-narrow-requires
+narrow-requires c κs = omega arith
+
+mul-times : tie.Need-mul-times
+mul-times c = omega arith
+
+slice-write-times : tie.Need-slice-write-times
+slice-write-times c = omega arith
+
+same-length-3 : tie.Need-same-length-3
+same-length-3 c = search needs
+
+same-length-4 : tie.Need-same-length-4
+same-length-4 c = search needs
+
+returns-3 : tie.Need-returns-3
+returns-3 c =
+    let c-args = c .before .before .before .before .before .before .before .before .before .before .args in
+    let c-t = c .before .before .before .t in
+    let c-task-line = c .before .before .before .before .before .before .task-line in
+    let c-narrow = c .narrow in
+    let h = tasked (c-args .text .now) (c-args .at) (c-args .j + 1) (c-args .arrows .now) (c-args .a) _ _ _ (c-t .given .1) (c-task-line .ensures) in
+    subtask-is (c-args .text .now) (c-args .at) (c-args .j) (c-args .arrows .now) (c-args .a) _ _ _ _ _ h (c-args .times .now) (c-narrow .result) (omega arith) (c-narrow .ensures)
+
+pub take-subtask-spec : {M : Type 1} → statement M
+take-subtask-spec =
+    tie.close
+    (tie.spec
+    add-task-line
+    task-line-requires
+    enum-known-t
+    enum-told
+    same-length
+    returns
+    same-length-2
+    returns-2
+    narrow-requires
+    mul-times
+    slice-write-times
+    same-length-3
+    same-length-4
+    returns-3)

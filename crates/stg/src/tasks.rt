@@ -1,0 +1,92 @@
+// The lines of the tasks. Those of the subtasks put their times and arrows into the two rows.
+use super::line::Line;
+use super::line::narrow;
+use super::line::take_line;
+use terms::Refusal;
+ghost use Prim.Native.Nat.{_≤_, _<_};
+ghost use lib.ListN.{length};
+ghost use Rattle.stg.specs.Told.{TaskOf, SubtaskOf, SubtasksOf};
+
+// A task's line: its time, whether its predecessors are all below its index, how many arrows there are then, and where the next line begins.
+pub enum Task {
+    Misshapen,
+    Is(usize, bool, usize, usize),
+}
+
+// How many subtasks or arrows there are so far, and where the next line begins.
+pub enum Step {
+    Refused(Refusal),
+    Counted(usize, usize),
+}
+
+// The line of task i: its index, its time, the number of its predecessors, and as many predecessors.
+pub fn task_line(text: &[u8], at: usize, i: usize, arrows: &mut [[u16; 2]], a: usize) -> Task
+    requires { ⌜ (at ≤ length (now text)) × (i < 65536) × (a ≤ at) ⌝ }
+    ensures { λ r. ⌜ TaskOf (now (text .entry)) at i (now (arrows .entry)) a (now (arrows .exit)) r ⌝ }
+{
+    let mut head = [0usize; 3];
+    let Line::Is(k, below, b, e) = take_line(text, at, i, &mut head, arrows, a) else {
+        return Task::Misshapen;
+    };
+    if k < 3 {
+        return Task::Misshapen;
+    }
+    if head[0] != i {
+        return Task::Misshapen;
+    }
+    if head[2] != k - 3 {
+        return Task::Misshapen;
+    }
+    Task::Is(head[1], below, b, e)
+}
+
+// The line of subtask j + 1.
+fn take_subtask(
+    text: &[u8],
+    at: usize,
+    j: usize,
+    times: &mut [u16],
+    arrows: &mut [[u16; 2]],
+    a: usize,
+) -> Step
+    requires { ⌜ (at ≤ length (now text)) × (j < 256) × (256 ≤ length (now times)) × (a ≤ at) ⌝ }
+    ensures { λ r. ⌜ SubtaskOf (now (text .entry)) at j a (now (times .entry)) (now (arrows .entry)) (now (times .exit)) (now (arrows .exit)) r ⌝ }
+{
+    let Task::Is(t, _, b, e) = task_line(text, at, j + 1, arrows, a) else {
+        return Step::Refused(Refusal { number: 22 });
+    };
+    if 65535 < t {
+        return Step::Refused(Refusal { number: 24 });
+    }
+    times[j] = narrow(t);
+    Step::Counted(b, e)
+}
+
+// The lines of the n subtasks.
+pub fn take_subtasks(
+    text: &[u8],
+    at: usize,
+    n: usize,
+    times: &mut [u16],
+    arrows: &mut [[u16; 2]],
+) -> Step
+    requires { ⌜ (at ≤ length (now text)) × (n ≤ 256) × (256 ≤ length (now times)) ⌝ }
+    ensures { λ r. ⌜ SubtasksOf (now (text .entry)) at n (now (times .entry)) (now (arrows .entry)) (now (times .exit)) (now (arrows .exit)) r ⌝ }
+{
+    let mut here = at;
+    let mut a: usize = 0;
+    let mut j: usize = 0;
+    while j < n {
+        match take_subtask(text, here, j, times, arrows, a) {
+            Step::Refused(k) => {
+                return Step::Refused(k);
+            }
+            Step::Counted(b, e) => {
+                a = b;
+                here = e;
+            }
+        }
+        j += 1;
+    }
+    Step::Counted(a, here)
+}
