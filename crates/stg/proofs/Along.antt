@@ -11,7 +11,7 @@ use borrow.Author.Tests.{ltb-true, ltb-false}
 use lib.ListN.{length, drop, set, length-drop}
 use lib.Seq.{sets, drop-nil}
 use lib.Dec.{ltb}
-use Rattle.terms.specs.Texts.{all, proper, numbers}
+use Rattle.terms.specs.Texts.{allPass, proper, numbers}
 use Rattle.terms.specs.Readings.{arrowsInto}
 use Rattle.text.specs.Standing.{line, later, Passed, Ended, Stands}
 use Rattle.text.specs.Steps.{nextNumber}
@@ -40,13 +40,13 @@ early-or-late k q ns false z = let h = ltb-false k 3 z in let e : 3 - k ≡ 0 = 
 after-more : (k q : ℕ) (ns : List ℕ) → predecessorsAfter k (q ∷ ns) ≡ predecessorsAfter k (q ∷ []) ++ predecessorsAfter (k + 1) ns
 after-more k q ns = early-or-late k q ns (ltb k 3) refl
 
-all-append : (f : ℕ → Bool) (ps qs : List ℕ) → all f (ps ++ qs) ≡ (all f ps && all f qs)
-unfolding all
+all-append : (f : ℕ → Bool) (ps qs : List ℕ) → allPass f (ps ++ qs) ≡ (allPass f ps && allPass f qs)
+unfolding allPass
 all-append f [] qs = refl
-all-append f (p ∷ ps) qs = ap (λ (b : Bool). f p && b) (all-append f ps qs) ∙ sym (and-assoc (f p) (all f ps) (all f qs))
+all-append f (p ∷ ps) qs = ap (λ (b : Bool). f p && b) (all-append f ps qs) ∙ sym (and-assoc (f p) (allPass f ps) (allPass f qs))
 
-all-after : (f : ℕ → Bool) (k : ℕ) → all f (predecessorsAfter k []) ≡ true
-unfolding all
+all-after : (f : ℕ → Bool) (k : ℕ) → allPass f (predecessorsAfter k []) ≡ true
+unfolding allPass
 all-after f k = rw (drop-nil {A = ℕ} (3 - k))
 
 none-after : (i k : ℕ) → arrowsInto i (predecessorsAfter k []) ≡ []
@@ -61,7 +61,7 @@ pub record Along (text : List ℕ) (at i : ℕ) (head : List ℕ) (row : List (L
   pub next : later (drop at text) ≡ later (drop here text)
   pub many : length (numbers (line (drop at text))) ≡ k + length (numbers (line (drop here text)))
   pub heads : sets head 0 (numbers (line (drop at text))) ≡ sets head′ k (numbers (line (drop here text)))
-  pub each : all (λ p. ltb p i) (predecessorsAfter 0 (numbers (line (drop at text)))) ≡ (below && all (λ p. ltb p i) (predecessorsAfter k (numbers (line (drop here text)))))
+  pub each : allPass (λ p. ltb p i) (predecessorsAfter 0 (numbers (line (drop at text)))) ≡ (below && allPass (λ p. ltb p i) (predecessorsAfter k (numbers (line (drop here text)))))
   pub counts : a + length (arrowsInto i (predecessorsAfter 0 (numbers (line (drop at text))))) ≡ b + length (arrowsInto i (predecessorsAfter k (numbers (line (drop here text)))))
   pub holds : sets row a (held i (predecessorsAfter 0 (numbers (line (drop at text))))) ≡ sets row′ b (held i (predecessorsAfter k (numbers (line (drop here text)))))
   pub inside : here ≤ length text
@@ -88,7 +88,7 @@ along-none text at i head row a h f =
 module _ (text : List ℕ) (at i : ℕ) (head : List ℕ) (row : List (List ℕ)) (a here k : ℕ) (below : Bool) (b : ℕ) (head′ : List ℕ) (row′ : List (List ℕ))
     (o : Along text at i head row a here k below b head′ row′) where
   pub along-more : (q e : ℕ) (head″ : List ℕ) (still : Bool) (c : ℕ) (row″ : List (List ℕ)) → Passed text here q e → head″ ≡ set head′ k q
-      → still ≡ (below && all (λ p. ltb p i) (predecessorsAfter k (q ∷ []))) → Added i (predecessorsAfter k (q ∷ [])) b row′ c row″
+      → still ≡ (below && allPass (λ p. ltb p i) (predecessorsAfter k (q ∷ []))) → Added i (predecessorsAfter k (q ∷ [])) b row′ c row″
       → Along text at i head row a e (k + 1) still c head″ row″
   along-more q e head″ still c row″ p r s d =
       let ns = numbers (line (drop e text)) in
@@ -102,10 +102,10 @@ module _ (text : List ℕ) (at i : ℕ) (head : List ℕ) (row : List (List ℕ)
         heads = o .heads ∙ ap (sets head′ k) (p .some) ∙ rw (r, add-one);
         each =
             o .each
-            ∙ ap (λ (l : List ℕ). below && all (λ p. ltb p i) l) left
+            ∙ ap (λ (l : List ℕ). below && allPass (λ p. ltb p i) l) left
             ∙ ap (λ (t : Bool). below && t) (all-append (λ p. ltb p i) ps qs)
-            ∙ sym (and-assoc below (all (λ p. ltb p i) ps) (all (λ p. ltb p i) qs))
-            ∙ ap (λ (t : Bool). t && all (λ p. ltb p i) qs) (sym s);
+            ∙ sym (and-assoc below (allPass (λ p. ltb p i) ps) (allPass (λ p. ltb p i) qs))
+            ∙ ap (λ (t : Bool). t && allPass (λ p. ltb p i) qs) (sym s);
         counts = o .counts ∙ ap (λ (l : List ℕ). b + length (arrowsInto i l)) left ∙ added-counts i ps b row′ c row″ d qs;
         holds = o .holds ∙ ap (λ (l : List ℕ). sets row′ b (held i l)) left ∙ added-holds i ps b row′ c row″ d qs;
         inside = p .inside;
@@ -127,7 +127,7 @@ module _ (text : List ℕ) (at i : ℕ) (head : List ℕ) (row : List (List ℕ)
             record {
               each =
                   o .each
-                  ∙ ap (λ (l : List ℕ). below && all (λ p. ltb p i) (predecessorsAfter k l)) (p .none)
+                  ∙ ap (λ (l : List ℕ). below && allPass (λ p. ltb p i) (predecessorsAfter k l)) (p .none)
                   ∙ ap (λ (t : Bool). below && t) (all-after (λ p. ltb p i) k)
                   ∙ and-true below;
               adds =

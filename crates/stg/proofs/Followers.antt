@@ -8,7 +8,7 @@ use borrow.Author.Tests.{eq-eqb, ne-eqb}
 use lib.Dec.{eqb}
 use lib.ListN.{length, getD, drop, drop-of-length-le}
 use lib.Seq.{drop-cons, drop-drop}
-use Rattle.terms.specs.Texts.{all, begins, onto, isBlank, isField, value, lines, fields, proper, numbers, endsHere}
+use Rattle.terms.specs.Texts.{allPass, begins, onto, isBlank, isField, value, lines, fields, proper, numbers, endsHere}
 use Rattle.terms.specs.Readings.{refuse, graph, mayFollow, trailer}
 use Rattle.text.specs.Steps.{lineSize}
 use Rattle.text.specs.Standing.{line}
@@ -25,20 +25,20 @@ onto-some : (b : ℕ) (ls : List (List ℕ)) → none (onto b ls) ≡ false
 onto-some b [] = refl
 onto-some b (l ∷ ls) = refl
 
-blank-step : (b : ℕ) (l : List ℕ) (t u : Bool) → isBlank b ≡ t → begins (λ x. not (isBlank x)) l ≡ u → all isBlank l ≡ none (fields l) → all isBlank (b ∷ l) ≡ none (fields (b ∷ l))
-unfolding all fields
+blank-step : (b : ℕ) (l : List ℕ) (t u : Bool) → isBlank b ≡ t → begins (λ x. not (isBlank x)) l ≡ u → allPass isBlank l ≡ none (fields l) → allPass isBlank (b ∷ l) ≡ none (fields (b ∷ l))
+unfolding allPass fields
 blank-step b l true u e f h = rw e h
 blank-step b l false true e f h = rw (e, f) (sym (onto-some b (fields l)))
 blank-step b l false false e f h = rw (e, f)
 
 -- a line of blanks is one without fields
-blank-line : (l : List ℕ) → all isBlank l ≡ none (fields l)
-unfolding all fields
+blank-line : (l : List ℕ) → allPass isBlank l ≡ none (fields l)
+unfolding allPass fields
 blank-line [] = refl
 blank-line (b ∷ l) = blank-step b l (isBlank b) (begins (λ x. not (isBlank x)) l) refl refl (blank-line l)
 
-none-bad : (fs : List (List ℕ)) → all isField fs ≡ false → none fs ≡ false
-unfolding all
+none-bad : (fs : List (List ℕ)) → allPass isField fs ≡ false → none fs ≡ false
+unfolding allPass
 none-bad [] e = e
 none-bad (w ∷ ws) e = refl
 
@@ -63,7 +63,7 @@ module _ (text : List ℕ) (at : ℕ) (h : at < length text) where
   unfolding mayFollow
   follower-comment e s q =
       record {
-        may = rw (sharp s) (or-true (all isBlank (line (drop at text))));
+        may = rw (sharp s) (or-true (allPass isBlank (line (drop at text))));
         next = rw (q, ← drop-drop (lineSize (drop at text)) at text) (later-size (drop at text));
         inside = rw q (size-within text at (omega arith));
         on = rw q (size-on text at h);
@@ -75,7 +75,7 @@ module _ (text : List ℕ) (at : ℕ) (h : at < length text) where
     follower-bad e = rw (blank-line (line (drop at text)), none-bad (fields (line (drop at text))) e, not-sharp s)
 
     module _ (i : ℕ) (head : List ℕ) (row : List (List ℕ)) (a k : ℕ) (below : Bool) (b e : ℕ) (head′ : List ℕ) (row′ : List (List ℕ)) (p : LineIs text at i head row a k below b e head′ row′) where
-      blank-if : all isBlank (line (drop at text)) ≡ eqb k 0
+      blank-if : allPass isBlank (line (drop at text)) ≡ eqb k 0
       unfolding numbers
       blank-if = blank-line (line (drop at text)) ∙ none-many (fields (line (drop at text))) ∙ rw (p .many)
 

@@ -8,7 +8,7 @@ use borrow.Author.Tests.{eq-eqb, ne-eqb, le-leb, lt-leb, le-ltb}
 use lib.Dec.{eqb, leb, ltb}
 use lib.ListN.{length, getD, drop}
 use lib.Seq.{drop-cons}
-use Rattle.terms.specs.Texts.{all, lines, proper, numbers}
+use Rattle.terms.specs.Texts.{allPass, lines, proper, numbers}
 use Rattle.terms.specs.Readings.{Reading, refuse, lineAtHand, linesAfter, isSize, isFirst, isShape, isTask, isEntryDummy, isExitDummy, predecessorsIn, trailer, exitLine, taskLines, entryLine, readLines}
 use Rattle.text.specs.Standing.{line, later}
 use Rattle.text.proofs.Lines.{lines-cons}
@@ -114,8 +114,8 @@ tasked text at i row a row′ r x e h = rw e at h
 
 -- ---- a dummy's line
 
-all-below-0 : (ps : List ℕ) → all (λ p. ltb p 0) ps ≡ eqb (length ps) 0
-unfolding all
+all-below-0 : (ps : List ℕ) → allPass (λ p. ltb p 0) ps ≡ eqb (length ps) 0
+unfolding allPass
 all-below-0 [] = refl
 all-below-0 (p ∷ ps) = rw (le-ltb p 0 (omega arith), ne-eqb (suc (length ps)) 0 (λ e. omega arith))
 

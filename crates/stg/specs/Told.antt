@@ -7,7 +7,7 @@ use lib.Dec.{leb, ltb}
 use lib.ListN.{length, getD, drop}
 use lib.Seq.{sets}
 use Rattle.terms.specs.Graphs.{Among}
-use Rattle.terms.specs.Texts.{all, lines, proper, numbers}
+use Rattle.terms.specs.Texts.{allPass, lines, proper, numbers}
 use Rattle.terms.specs.Readings.{Reading, refuse, graph, need, readLines, entryLine, taskLines, exitLine, isTask, isExitDummy, timeIn, predecessorsIn, mayFollow, arrowsInto}
 use Rattle.terms.specs.declared.Check.{Check}
 use Rattle.terms.specs.declared.Check.the-variants as check
@@ -49,7 +49,7 @@ pub record Added (i : ℕ) (ps : List ℕ) (a : ℕ) (row : List (List ℕ)) (b 
 -- what a line gives as the line of task i
 pub record Gives (text : List ℕ) (at i : ℕ) (row : List (List ℕ)) (a : ℕ) (below : Bool) (b e : ℕ) (row′ : List (List ℕ)) : Type 0 where
   -- whether its predecessors, the numbers after the third, are all below i
-  pub each : all (λ p. ltb p i) (predecessorsIn (line (drop at text))) ≡ below
+  pub each : allPass (λ p. ltb p i) (predecessorsIn (line (drop at text))) ≡ below
   -- their arrows went into the row
   pub adds : Added i (predecessorsIn (line (drop at text))) a row b row′
   -- each arrow has cost a byte

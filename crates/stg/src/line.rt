@@ -7,7 +7,7 @@ ghost use mathlib.Core.Bool.{_&&_};
 ghost use Prim.Native.Nat.{_≤_, _<_};
 ghost use lib.Dec.{ltb};
 ghost use lib.ListN.{length, set};
-ghost use Rattle.terms.specs.Texts.{all};
+ghost use Rattle.terms.specs.Texts.{allPass};
 ghost use Rattle.stg.specs.Told.{clipped, predecessorsAfter, Added, LineOf};
 
 // One line: how many numbers it has, whether those after the third are all below i, how many arrows there are then, and where the next line begins.
@@ -45,7 +45,7 @@ fn keep_head(head: &mut [usize; 3], k: usize, q: usize)
 
 // Whether the predecessors are all below i, with the number that stands behind k others.
 fn still_below(below: bool, k: usize, q: usize, i: usize) -> bool
-    ensures { λ r. ⌜ r ≡ (below && all (λ p. ltb p i) (predecessorsAfter k (q ∷ []))) ⌝ }
+    ensures { λ r. ⌜ r ≡ (below && allPass (λ p. ltb p i) (predecessorsAfter k (q ∷ []))) ⌝ }
 {
     if k < 3 {
         return below;

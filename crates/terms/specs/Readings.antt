@@ -7,7 +7,7 @@ use lib.Dec.{eqb, leb, ltb}
 use lib.ListN.{length, getD, drop, replicate}
 use Rattle.terms.specs.Rows.{Accepted, RefusedBy}
 use Rattle.terms.specs.Refusals.{timeAndArrowRows}
-use Rattle.terms.specs.Texts.{all, begins, isBlank, lines, proper, numbers}
+use Rattle.terms.specs.Texts.{allPass, begins, isBlank, lines, proper, numbers}
 use Rattle.terms.specs.declared.Counts.{Counts}
 use Rattle.terms.specs.declared.Counts.the-variants as counts
 
@@ -66,11 +66,11 @@ isEntryDummy line = eqb (timeIn line) 0 && eqb (length (predecessorsIn line)) 0
 
 -- task i = n + 1 is the exit dummy: time 0, predecessors among 0..n
 unfoldable pub isExitDummy : ℕ → List ℕ → Bool
-isExitDummy i line = eqb (timeIn line) 0 && all (λ p. ltb p i) (predecessorsIn line)
+isExitDummy i line = eqb (timeIn line) 0 && allPass (λ p. ltb p i) (predecessorsIn line)
 
 -- after it: nothing but spaces and tabs, or a first byte #
 unfoldable pub mayFollow : List ℕ → Bool
-mayFollow line = all isBlank line || begins (λ b. eqb b 35) line
+mayFollow line = allPass isBlank line || begins (λ b. eqb b 35) line
 
 -- ---- the graph
 

@@ -6,9 +6,9 @@ use lib.Dec.{eqb, leb}
 use lib.ListN.{length, drop}
 
 -- whether all of a list pass a test
-unfoldable pub all {ℓ} : {A : Type ℓ} → (A → Bool) → List A → Bool
-all test [] = true
-all test (x ∷ xs) = test x && all test xs
+unfoldable pub allPass {ℓ} : {A : Type ℓ} → (A → Bool) → List A → Bool
+allPass test [] = true
+allPass test (x ∷ xs) = test x && allPass test xs
 
 -- whether a list begins with a byte that passes a test
 abbrev pub begins : (ℕ → Bool) → List ℕ → Bool
@@ -48,7 +48,7 @@ fields (b ∷ line) =
 
 -- a field is 1 to 8 decimal digits
 abbrev pub isField : List ℕ → Bool
-isField word = leb 1 (length word) && (leb (length word) 8 && all isDigit word)
+isField word = leb 1 (length word) && (leb (length word) 8 && allPass isDigit word)
 
 -- the number of a field: its digits' value, after the value of those before them
 unfoldable pub valueFrom : ℕ → List ℕ → ℕ
@@ -60,7 +60,7 @@ value word = valueFrom 0 word
 
 -- a line is well shaped when each of its fields is one; these are its numbers
 unfoldable pub proper : List ℕ → Bool
-proper line = all isField (fields line)
+proper line = allPass isField (fields line)
 
 unfoldable pub numbers : List ℕ → List ℕ
 numbers line = map value (fields line)

@@ -9,20 +9,20 @@ use lib.ListN.{length, drop, getD, drop-of-length-le}
 use lib.Seq.{drop-cons}
 use borrow.Author.Tests.{leb-true, le-leb, lt-leb}
 use lib.Dec.{leb}
-use Rattle.terms.specs.Texts.{all, valueFrom, isDigit}
+use Rattle.terms.specs.Texts.{allPass, valueFrom, isDigit}
 use Rattle.text.specs.Steps.{numberOf}
 use Rattle.text.specs.declared.FieldValue.the-variants.{Is, Misshapen}
 
-pub all-stop : (f : ℕ → Bool) (s : List ℕ) (i : ℕ) → i < length s → f (getD s i 0) ≡ false → all f (drop i s) ≡ false
-unfolding all
+pub all-stop : (f : ℕ → Bool) (s : List ℕ) (i : ℕ) → i < length s → f (getD s i 0) ≡ false → allPass f (drop i s) ≡ false
+unfolding allPass
 all-stop f s i h e = rw (drop-cons s i 0 h, e)
 
-pub all-go : (f : ℕ → Bool) (s : List ℕ) (i : ℕ) → i < length s → f (getD s i 0) ≡ true → all f (drop (suc i) s) ≡ all f (drop i s)
-unfolding all
+pub all-go : (f : ℕ → Bool) (s : List ℕ) (i : ℕ) → i < length s → f (getD s i 0) ≡ true → allPass f (drop (suc i) s) ≡ allPass f (drop i s)
+unfolding allPass
 all-go f s i h e = rw (drop-cons s i 0 h, e)
 
-pub all-end : (f : ℕ → Bool) (s : List ℕ) (i : ℕ) → length s ≤ i → all f (drop i s) ≡ true
-unfolding all
+pub all-end : (f : ℕ → Bool) (s : List ℕ) (i : ℕ) → length s ≤ i → allPass f (drop i s) ≡ true
+unfolding allPass
 all-end f s i h = rw (drop-of-length-le s h)
 
 pub value-go : (n : ℕ) (s : List ℕ) (i : ℕ) → i < length s → valueFrom (n * 10 + (getD s i 0 - 48)) (drop (suc i) s) ≡ valueFrom n (drop i s)
@@ -55,8 +55,8 @@ module _ (s : List ℕ) where
   pub none-long : 8 < length s → Misshapen ≡ numberOf s
   none-long h = rw (le-leb 1 (length s) (omega arith), lt-leb (length s) 8 h)
 
-  pub none-digit : 1 ≤ length s → length s ≤ 8 → all isDigit s ≡ false → Misshapen ≡ numberOf s
+  pub none-digit : 1 ≤ length s → length s ≤ 8 → allPass isDigit s ≡ false → Misshapen ≡ numberOf s
   none-digit h k e = rw (le-leb 1 (length s) h, le-leb (length s) 8 k, e)
 
-  pub some : (v : ℕ) → 1 ≤ length s → length s ≤ 8 → all isDigit s ≡ true → v ≡ valueFrom 0 s → Is v ≡ numberOf s
+  pub some : (v : ℕ) → 1 ≤ length s → length s ≤ 8 → allPass isDigit s ≡ true → v ≡ valueFrom 0 s → Is v ≡ numberOf s
   some v h k e q = rw (le-leb 1 (length s) h, le-leb (length s) 8 k, e, q)

@@ -9,7 +9,7 @@ use lib.ListN.{length, drop, getD}
 use lib.Seq.{drop-cons}
 use lib.Dec.{eqb}
 use borrow.Author.Tests.{eqb-true, ne-eqb}
-use Rattle.terms.specs.Texts.{all, isBlank, isFeed, isReturn, begins, onto, lines, fields, proper, numbers, endsHere, blanks, word}
+use Rattle.terms.specs.Texts.{allPass, isBlank, isFeed, isReturn, begins, onto, lines, fields, proper, numbers, endsHere, blanks, word}
 use Rattle.text.proofs.Digits.{both}
 use Rattle.text.specs.Steps.{lineSize}
 use Rattle.text.specs.Standing.{line, later}
@@ -203,7 +203,7 @@ unfolding fields
 fields-none = refl
 
 pub proper-none : (l : List ℕ) → fields l ≡ [] → proper l ≡ true
-unfolding proper all
+unfolding proper allPass
 proper-none l e = rw e
 
 pub numbers-none : (l : List ℕ) → fields l ≡ [] → numbers l ≡ []

@@ -9,7 +9,7 @@ use mathlib.Core.Logic.{⊎-elim}
 use lib.ListN.{length, drop, length-drop}
 use lib.Seq.{drop-drop}
 use borrow.Author.Tests.{ne-eqb}
-use Rattle.terms.specs.Texts.{all, fields, isField, value, proper, numbers, blanks, word}
+use Rattle.terms.specs.Texts.{allPass, fields, isField, value, proper, numbers, blanks, word}
 use Rattle.text.specs.declared.FieldValue.{FieldValue}
 use Rattle.text.specs.declared.FieldValue.the-variants as fieldValue
 use Rattle.text.specs.declared.Next.the-variants as next
@@ -80,7 +80,7 @@ module _ (text : List ℕ) (at start : ℕ) (p : start ≡ at + blanks (drop at 
           ∙ rw (← q, drop-drop (length w) start text)
 
       at-piece : (t : Bool) → isField w ≡ t → Stands text at (endingAt (start + length w) (cond t (fieldValue.Is (value w)) fieldValue.Misshapen))
-      unfolding proper all numbers
+      unfolding proper allPass numbers
       at-piece false m = rw (after, m)
       at-piece true m =
           record {

@@ -13,7 +13,7 @@ use Rattle.terms.specs.ListRule.{ByRule, IsListPlan}
 use Rattle.terms.specs.Refusals.{timeAndArrowRows, graphRows, verdictRows, listRows, checkRows}
 use Rattle.terms.specs.Replies.{IsCheck, IsMeasure, IsTotalWork, IsLongestPath, IsOutcome, IsListed, IsChecked}
 use Rattle.terms.specs.Readings.{graph, isSize, isFirst, isShape, isTask, isEntryDummy, isExitDummy, mayFollow, arrowsInto, withTask, trailer, exitLine, taskLines, entryLine, readLines, readText, IsReplyTo, IsRead}
-use Rattle.terms.specs.Texts.{all, lines, fields, valueFrom, proper, numbers}
+use Rattle.terms.specs.Texts.{allPass, lines, fields, valueFrom, proper, numbers}
 use Rattle.terms.specs.Alterations.{Altered}
 use Rattle.terms.specs.declared.Entry.{Entry}
 use Rattle.terms.specs.declared.Refusal.{Refusal}
@@ -78,7 +78,7 @@ text =
     50 ∷ 10 ∷ 48 ∷ 32 ∷ 48 ∷ 32 ∷ 48 ∷ 10 ∷ 49 ∷ 32 ∷ 49 ∷ 32 ∷ 48 ∷ 10 ∷ 50 ∷ 32 ∷ 49 ∷ 32 ∷ 48 ∷ 10 ∷ 51 ∷ 32 ∷ 48 ∷ 32 ∷ 48 ∷ []
 
 text-reads : readText 256 2048 text ≡ graph short []
-unfolding readText readLines entryLine taskLines exitLine trailer withTask isTask isShape isFirst isSize isEntryDummy isExitDummy mayFollow arrowsInto lines fields all valueFrom proper numbers
+unfolding readText readLines entryLine taskLines exitLine trailer withTask isTask isShape isFirst isSize isEntryDummy isExitDummy mayFollow arrowsInto lines fields allPass valueFrom proper numbers
 text-reads = refl
 
 pub refuses-text : (timesRow : List ℕ) (arrowsRow : List (List ℕ)) (r : Refusal) → ¬ IsRead 256 2048 text timesRow arrowsRow (counts.Refused r)

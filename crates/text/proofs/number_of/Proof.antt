@@ -5,7 +5,7 @@ use native.Mathlib.Omega.{arith}
 use native.Mathlib.Numerals.{add-one}
 use borrow.Author.Tests.{not-true, not-false}
 use lib.ListN.{length, drop, getD}
-use Rattle.terms.specs.Texts.{isDigit, all, valueFrom}
+use Rattle.terms.specs.Texts.{isDigit, allPass, valueFrom}
 use Rattle.text.proofs.Digits.{all-stop, all-go, all-end, value-go, value-end, more, few}
 use Rattle.text.proofs.number_of.Statement.{statement}
 use Rattle.text.proofs.number_of.Tie as tie
@@ -14,7 +14,7 @@ abbrev Inv-loop : tie.InvT-loop
 Inv-loop piece value₀ i₀ value i =
     (i ≤ length piece)
     × (value < 10 ^ i)
-    × (all isDigit (drop i piece) ≡ all isDigit piece)
+    × (allPass isDigit (drop i piece) ≡ allPass isDigit piece)
     × (valueFrom value (drop i piece) ≡ valueFrom 0 piece)
 
 abbrev μ-loop : tie.MeasureT-loop

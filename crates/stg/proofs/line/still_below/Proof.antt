@@ -4,22 +4,22 @@ use Prim.Native.Nat.{ℕ, _≤_, _<_}
 use mathlib.Core.Bool.{Bool, false, _&&_, and-true, and-false}
 use lib.Dec.{ltb}
 use borrow.Author.Tests.{lt-ltb, le-ltb}
-use Rattle.terms.specs.Texts.{all}
+use Rattle.terms.specs.Texts.{allPass}
 use Rattle.stg.specs.Told.{predecessorsAfter}
 use Rattle.stg.proofs.Along.{first-three, after-three}
 use Rattle.stg.proofs.line.still_below.Statement.{statement}
 use Rattle.stg.proofs.line.still_below.Tie as tie
 
-first : (b : Bool) (k q i : ℕ) → k < 3 → b ≡ (b && all (λ p. ltb p i) (predecessorsAfter k (q ∷ [])))
-unfolding all
+first : (b : Bool) (k q i : ℕ) → k < 3 → b ≡ (b && allPass (λ p. ltb p i) (predecessorsAfter k (q ∷ [])))
+unfolding allPass
 first b k q i h = rw (first-three k q h) (sym (and-true b))
 
-lower : (b : Bool) (k q i : ℕ) → 3 ≤ k → q < i → b ≡ (b && all (λ p. ltb p i) (predecessorsAfter k (q ∷ [])))
-unfolding all
+lower : (b : Bool) (k q i : ℕ) → 3 ≤ k → q < i → b ≡ (b && allPass (λ p. ltb p i) (predecessorsAfter k (q ∷ [])))
+unfolding allPass
 lower b k q i h l = rw (after-three k q h, lt-ltb q i l) (sym (and-true b))
 
-beyond : (b : Bool) (k q i : ℕ) → 3 ≤ k → i ≤ q → false ≡ (b && all (λ p. ltb p i) (predecessorsAfter k (q ∷ [])))
-unfolding all
+beyond : (b : Bool) (k q i : ℕ) → 3 ≤ k → i ≤ q → false ≡ (b && allPass (λ p. ltb p i) (predecessorsAfter k (q ∷ [])))
+unfolding allPass
 beyond b k q i h l = rw (after-three k q h, le-ltb q i l) (sym (and-false b))
 
 returns : tie.Need-returns
