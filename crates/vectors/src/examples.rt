@@ -51,7 +51,21 @@ fn print_end(reply: PlanEnd) {
     }
 }
 
-// S, then fits and the spare, or late and the shortfall.
+// Fits and the spare, or late and the shortfall.
+fn print_verdict(verdict: Verdict) {
+    match verdict {
+        Verdict::Fits(spare) => {
+            print(b" fits,");
+            print_number(spare);
+        }
+        Verdict::Late(shortfall) => {
+            print(b" late,");
+            print_number(shortfall);
+        }
+    }
+}
+
+// S, then the verdict.
 fn print_answer(answer: Answer) {
     let outcome = answer.outcome;
     match outcome {
@@ -59,16 +73,7 @@ fn print_answer(answer: Answer) {
         Outcome::Judged(verdict) => {
             print(b" S,");
             print_number(answer.figures.s);
-            match verdict {
-                Verdict::Fits(spare) => {
-                    print(b" fits,");
-                    print_number(spare);
-                }
-                Verdict::Late(shortfall) => {
-                    print(b" late,");
-                    print_number(shortfall);
-                }
-            }
+            print_verdict(verdict);
         }
     }
 }
