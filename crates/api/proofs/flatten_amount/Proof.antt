@@ -1,3 +1,4 @@
+-- `flatten_amount`: an amount, made flat. Assumes nothing.
 use borrow.Author.Needs.{needs}
 use mathlib.Core.Path.{sym, ap}
 use Rattle.api.specs.Flats.{flatAmount}

@@ -1,3 +1,4 @@
+-- `flatten_answer`: the answer, made flat. Assumes nothing.
 use borrow.Author.Needs.{needs}
 use mathlib.Core.Path.{_∙_, sym, ap}
 use lib.Ieee.{ofBits}

@@ -1,3 +1,4 @@
+-- `flatten_counts`: the counts, made flat. Assumes nothing.
 use borrow.Author.Needs.{needs}
 use mathlib.Core.Path.{sym, ap}
 use native.Mathlib.Omega.{arith}

@@ -1,3 +1,4 @@
+-- `flatten_end`: a plan's end, made flat. Assumes nothing.
 use borrow.Author.Needs.{needs}
 use mathlib.Core.Path.{sym, ap}
 use Rattle.api.specs.Flats.{flatEnd}

@@ -1,3 +1,4 @@
+-- `zul_read_stg`: the reader's reply, made flat; the counts fit 32 bits. Assumes nothing.
 use borrow.Author.Needs.{needs}
 use Rattle.api.proofs.Sizes.{in-range}
 use Rattle.api.proofs.zul_read_stg.Statement.{statement}

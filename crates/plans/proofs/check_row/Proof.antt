@@ -1,3 +1,4 @@
+-- `check_row`: the plan check of a table's first entries. Assumes nothing.
 use borrow.Author.Needs.{needs}
 use Rattle.plans.proofs.Parts.{checked-part}
 use Rattle.plans.proofs.check_row.Statement.{statement}

@@ -1,3 +1,4 @@
+-- `list_row`: the list plan of a table's first entries, those past them as they were. Assumes nothing.
 use borrow.Author.Needs.{needs}
 use Rattle.plans.proofs.Parts.{listed-part}
 use Rattle.plans.proofs.list_row.Statement.{statement}

@@ -1,3 +1,4 @@
+-- `check_read`: 2 to 7 of a graph that was read, also where it has too many arrows. Assumes nothing.
 use mathlib.Core.Path.{_≡_, sym}
 use mathlib.Core.List.{List}
 use native.Mathlib.Omega.{arith}

@@ -1,3 +1,4 @@
+-- `check_room`: 11 and 20, asked before the lines. Assumes nothing.
 use Rattle.stg.proofs.Replied.{short-times, short-arrows, long-text}
 use Rattle.stg.proofs.check_room.Statement.{statement}
 use Rattle.stg.proofs.check_room.Tie as tie

@@ -1,3 +1,4 @@
+-- `kept_by`: a refusal keeps nothing of the rows. Assumes nothing.
 use mathlib.Core.Path.{sym, ap}
 use borrow.Author.Needs.{needs}
 use Rattle.stg.specs.Held.{keptBy}

@@ -1,3 +1,4 @@
+-- `read_graph`: room, lines and the graph's own refusals, one after the other. Assumes nothing.
 use native.Mathlib.Omega.{arith}
 use lib.ListN.{length}
 use borrow.Author.Needs.{needs}

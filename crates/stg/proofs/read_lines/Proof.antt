@@ -1,3 +1,4 @@
+-- `read_lines`: the opening, the subtasks' lines and the closing leave the whole reading. Assumes nothing.
 use mathlib.Core.Path.{_≡_}
 use mathlib.Core.List.{List}
 use Prim.Native.Nat.{ℕ}

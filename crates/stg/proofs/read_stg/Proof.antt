@@ -1,3 +1,4 @@
+-- `read_stg`: the reply, with zeros past what it keeps. Assumes nothing.
 use mathlib.Core.Path.{_∙_}
 use lib.ListN.{length}
 use borrow.Author.Needs.{needs}

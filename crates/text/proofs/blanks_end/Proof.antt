@@ -1,3 +1,4 @@
+-- `blanks_end`: the first place without a space or a tab. Assumes nothing.
 use mathlib.Core.Path.{_≡_, refl, sym, _∙_}
 use Prim.Native.Nat.{_+_, _-_}
 use native.Mathlib.Omega.{arith}

@@ -1,3 +1,4 @@
+-- `field_ends`: a field ends at a space, a tab or a line's end. Assumes nothing.
 use mathlib.Core.Path.{sym, _∙_}
 use native.Mathlib.Omega.{arith}
 use borrow.Author.Needs.{needs}

@@ -1,3 +1,4 @@
+-- `field_from`: the field that begins at a place is that piece of the lent text. Assumes nothing.
 use mathlib.Core.Path.{_≡_, sym}
 use mathlib.Core.List.{List}
 use Prim.Native.Nat.{ℕ, _+_, _-_}

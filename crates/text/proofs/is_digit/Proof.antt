@@ -1,3 +1,4 @@
+-- `is_digit`: a byte of 48 to 57. Assumes nothing.
 use borrow.Author.Tests.{lt-leb, le-leb}
 use Rattle.text.proofs.is_digit.Statement.{statement}
 use Rattle.text.proofs.is_digit.Tie as tie

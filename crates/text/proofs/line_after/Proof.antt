@@ -1,3 +1,4 @@
+-- `line_after`: the place behind the next LF, or the end. Assumes nothing.
 use mathlib.Core.Path.{_≡_, refl}
 use Prim.Native.Nat.{_+_, _-_}
 use native.Mathlib.Omega.{arith}

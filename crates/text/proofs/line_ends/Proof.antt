@@ -1,3 +1,4 @@
+-- `line_ends`: LF, or CR and then LF. Assumes nothing.
 use native.Mathlib.Omega.{arith}
 use borrow.Author.Needs.{needs}
 use native.Mathlib.Numerals.{add-one}

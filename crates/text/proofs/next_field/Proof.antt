@@ -1,3 +1,4 @@
+-- `next_field`: the next field is that piece of the lent text. Assumes nothing.
 use mathlib.Core.Path.{_≡_, _∙_}
 use mathlib.Core.List.{List}
 use Prim.Native.Nat.{ℕ, _+_}

@@ -1,3 +1,4 @@
+-- `number_of`: 1 to 8 digits are a number, read one by one. Assumes nothing.
 use Rattle.text.proofs.Digits.{none-short, none-long, none-digit, some, digit-bounds}
 use Prim.Native.Nat.{_≤_, _<_, _-_, _^_}
 use mathlib.Core.Path.{_≡_, refl, sym, _∙_}

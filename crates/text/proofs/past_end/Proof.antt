@@ -1,3 +1,4 @@
+-- `past_end`: the place behind a line's end, found without a search. Assumes nothing.
 use native.Mathlib.Omega.{arith}
 use borrow.Author.Needs.{needs}
 use Rattle.text.proofs.Places.{size-stop, size-none}

@@ -1,3 +1,4 @@
+-- `add_arrow`: one predecessor more, stored where there is room and counted in any case. Assumes nothing.
 use mathlib.Core.List.{List, [], _∷_}
 use Prim.Native.Nat.{ℕ, _≤_, _<_}
 use native.Mathlib.Omega.{arith}

@@ -1,3 +1,4 @@
+-- `clip`: what 16 bits cannot hold becomes 65,535. Assumes nothing.
 use mathlib.Core.Path.{_≡_}
 use Prim.Native.Nat.{ℕ, _≤_, _<_}
 use native.Mathlib.Omega.{arith}

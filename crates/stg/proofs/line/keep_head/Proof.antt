@@ -1,3 +1,4 @@
+-- `keep_head`: the first three numbers are kept. Assumes nothing.
 use mathlib.Core.Path.{sym}
 use native.Mathlib.Omega.{arith}
 use borrow.Author.Needs.{needs}

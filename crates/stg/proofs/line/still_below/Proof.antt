@@ -1,3 +1,4 @@
+-- `still_below`: whether the predecessors so far are all below i. Assumes nothing.
 use mathlib.Core.Path.{_≡_, sym}
 use mathlib.Core.List.{[], _∷_}
 use Prim.Native.Nat.{ℕ, _≤_, _<_}

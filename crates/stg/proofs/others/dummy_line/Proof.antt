@@ -1,3 +1,4 @@
+-- `dummy_line`: a dummy has time 0 and predecessors below its index. Assumes nothing.
 use borrow.Author.Needs.{needs}
 use borrow.Author.Tests.{not-true, not-false}
 use Rattle.stg.proofs.OneLine.{tasked, dummy-bad, dummy-time, dummy-far, dummy-is}

@@ -1,3 +1,4 @@
+-- `first_line`: one number, of 1..256. Assumes nothing.
 use borrow.Author.Needs.{needs}
 use Rattle.stg.proofs.LineHeads.{noughts}
 use Rattle.stg.proofs.OneLine.{lined, first-bad, first-many, first-low, first-high, first-is}

@@ -1,3 +1,4 @@
+-- `following_line`: a comment, or a line without numbers. Assumes nothing.
 use native.Mathlib.Omega.{arith}
 use borrow.Author.Needs.{needs}
 use Rattle.stg.proofs.OneLine.{lined}

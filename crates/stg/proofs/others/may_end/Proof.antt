@@ -1,3 +1,4 @@
+-- `may_end`: only lines that may follow stand from here on. Assumes nothing.
 use mathlib.Core.Path.{_≡_, refl, _∙_}
 use mathlib.Core.List.{List}
 use Prim.Native.Nat.{ℕ, _-_, _≤_}

@@ -1,3 +1,4 @@
+-- `take_closing`: the exit dummy's line and those that may follow. Assumes nothing.
 use mathlib.Core.Path.{_≡_, _∙_}
 use mathlib.Core.List.{[]}
 use borrow.Author.Needs.{needs}

@@ -1,3 +1,4 @@
+-- `take_opening`: the first line and the entry dummy's. Assumes nothing.
 use mathlib.Core.Path.{_≡_}
 use mathlib.Core.List.{List}
 use Prim.Native.Nat.{ℕ}

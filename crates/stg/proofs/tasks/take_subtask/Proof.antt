@@ -1,3 +1,4 @@
+-- `take_subtask`: one subtask's line, its time and arrows put down. Assumes nothing.
 use Prim.Native.Nat.{_+_}
 use native.Mathlib.Omega.{arith}
 use borrow.Author.Needs.{needs}

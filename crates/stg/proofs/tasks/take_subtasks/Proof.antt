@@ -1,3 +1,4 @@
+-- `take_subtasks`: the lines of all subtasks. Assumes nothing.
 use mathlib.Core.Path.{_≡_, refl, _∙_}
 use mathlib.Core.List.{List}
 use Prim.Native.Nat.{ℕ, _-_}

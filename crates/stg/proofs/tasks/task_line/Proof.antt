@@ -1,3 +1,4 @@
+-- `task_line`: a line has the shape of a task's, or has not. Assumes nothing.
 use borrow.Author.Needs.{needs}
 use Rattle.stg.proofs.LineHeads.{noughts}
 use Rattle.stg.proofs.OneLine.{lined, task-bad, task-few, task-other, task-miss, task-is}
