@@ -4,6 +4,7 @@ use mathlib.Core.List.{List}
 use Prim.Native.Nat.{ℕ, _+_}
 use native.Mathlib.Nat.{add-zero}
 use lib.ListN.{drop}
+use Rattle.terms.specs.Graphs.{Among}
 use Rattle.terms.specs.Texts.{lines}
 use Rattle.terms.specs.Readings.{Reading, refuse, trailer, exitLine, taskLines, readLines}
 use Rattle.terms.specs.declared.Check.{Check}
@@ -11,7 +12,7 @@ use Rattle.terms.specs.declared.Check.the-variants as check
 use Rattle.terms.specs.declared.Counts.the-variants as counts
 use Rattle.terms.specs.declared.Refusal.{Refusal}
 use Rattle.text.specs.Standing.{line, later}
-use Rattle.stg.specs.Told.{Fails, outcome, FirstIs, Dummy, dummy, AllSubtasks, Opened, closed, Leaves}
+use Rattle.stg.specs.Told.{outcome, FirstIs, Dummy, dummy, AllSubtasks, Opened, closed, Leaves}
 use Rattle.stg.proofs.OneLine.{entry-line, exit-line}
 
 -- the first line and the entry dummy's
@@ -38,25 +39,20 @@ module _ (text : List ℕ) (at i : ℕ) where
   pub exit-passed : (e : ℕ) → Dummy text at i e → exitLine i (lines (drop at text)) ≡ trailer (lines (drop e text))
   exit-passed e d = exit-line i (drop at text) ∙ d .does (trailer (later (drop at text))) ∙ ap trailer (d .next)
 
--- all of them
+-- the lines from the subtasks' on, and all of them
 module _ (text : List ℕ) (ts : List ℕ) (ar : List (List ℕ)) (ts′ : List ℕ) (ar′ : List (List ℕ)) where
   pub opening-refused : (refusal : Refusal) → readLines (lines text) ≡ refuse (refusal .number) → Leaves ts ar (readLines (lines text)) ts′ ar′ (counts.Refused refusal)
   unfolding Leaves
   opening-refused refusal e = ap (outcome ts ar 0 0) e
 
-  module _ (n e : ℕ) (o : Opened text n e) where
-    pub tasks-refused : (refusal : Refusal) → outcome ts ar 0 0 (taskLines 1 n (lines (drop e text))) ≡ Fails (refusal .number) → Leaves ts ar (readLines (lines text)) ts′ ar′ (counts.Refused refusal)
+  module _ (n e b f : ℕ) (t : AllSubtasks text e n ts ar b f ts′ ar′) (r : Check) (c : exitLine (n + 1) (lines (drop f text)) ≡ closed r) where
+    to-close : (x : Check) → r ≡ x → outcome ts ar 0 0 (taskLines 1 n (lines (drop e text))) ≡ outcome ts′ ar′ n b (closed x)
+    to-close x q = t .does ∙ ap (outcome ts′ ar′ n b) (c ∙ ap closed q)
+
+    pub closing-refused : (refusal : Refusal) → r ≡ check.Refused refusal → Leaves ts ar (taskLines 1 n (lines (drop e text))) ts′ ar′ (counts.Refused refusal)
     unfolding Leaves
-    tasks-refused refusal h = ap (outcome ts ar 0 0) (o .does) ∙ h
+    closing-refused refusal q = to-close (check.Refused refusal) q
 
-    module _ (b f : ℕ) (t : AllSubtasks text e n ts ar b f ts′ ar′) (r : Check) (c : exitLine (n + 1) (lines (drop f text)) ≡ closed r) where
-      to-close : (x : Check) → r ≡ x → outcome ts ar 0 0 (readLines (lines text)) ≡ outcome ts′ ar′ n b (closed x)
-      to-close x q = ap (outcome ts ar 0 0) (o .does) ∙ t .does ∙ ap (outcome ts′ ar′ n b) (c ∙ ap closed q)
-
-      pub closing-refused : (refusal : Refusal) → r ≡ check.Refused refusal → Leaves ts ar (readLines (lines text)) ts′ ar′ (counts.Refused refusal)
-      unfolding Leaves
-      closing-refused refusal q = to-close (check.Refused refusal) q
-
-      pub closing-sound : r ≡ check.Sound → Leaves ts ar (readLines (lines text)) ts′ ar′ (counts.Read (record { subtasks = n; arrows = b }))
-      unfolding Leaves
-      closing-sound q = (to-close check.Sound q ∙ rw (add-zero n, add-zero b), o .size)
+    pub closing-sound : r ≡ check.Sound → Among 1 256 n → Leaves ts ar (taskLines 1 n (lines (drop e text))) ts′ ar′ (counts.Read (record { subtasks = n; arrows = b }))
+    unfolding Leaves
+    closing-sound q size = (to-close check.Sound q ∙ rw (add-zero n, add-zero b), size)

@@ -19,11 +19,35 @@ use terms::MOST_SUBTASKS;
 use terms::Refusal;
 ghost use mathlib.Core.Path.{_≡_};
 ghost use Prim.Native.Nat.{_≤_};
-ghost use lib.ListN.{length};
+ghost use lib.ListN.{length, drop};
+ghost use Rattle.terms.specs.Graphs.{Among};
 ghost use Rattle.terms.specs.Texts.{lines};
-ghost use Rattle.terms.specs.Readings.{readLines, readText, IsRead};
+ghost use Rattle.terms.specs.Readings.{taskLines, readLines, readText, IsRead};
 ghost use Rattle.stg.specs.Told.{Leaves};
 ghost use Rattle.stg.specs.Held.{ChecksRead, RoomOf, TellsOf, keptBy};
+
+// The lines from the first of n subtasks' on, the graph put down in the two rows.
+fn read_tasks(
+    text: &[u8],
+    at: usize,
+    n: usize,
+    times: &mut [u16],
+    arrows: &mut [[u16; 2]],
+) -> Counts
+    requires { ⌜ (at ≤ length (now text)) × Among 1 256 n × (256 ≤ length (now times)) ⌝ }
+    ensures { λ r. ⌜ Leaves (now (times .entry)) (now (arrows .entry)) (taskLines 1 n (lines (drop at (now (text .entry))))) (now (times .exit)) (now (arrows .exit)) r ⌝ }
+{
+    match take_subtasks(text, at, n, times, arrows) {
+        Step::Refused(refusal) => Counts::Refused(refusal),
+        Step::Counted(a, e) => match take_closing(text, e, n + 1) {
+            Check::Refused(refusal) => Counts::Refused(refusal),
+            Check::Sound => Counts::Read(GraphSize {
+                subtasks: n,
+                arrows: a,
+            }),
+        },
+    }
+}
 
 // All lines of a text, its graph put down in the two rows.
 fn read_lines(text: &[u8], times: &mut [u16], arrows: &mut [[u16; 2]]) -> Counts
@@ -32,16 +56,7 @@ fn read_lines(text: &[u8], times: &mut [u16], arrows: &mut [[u16; 2]]) -> Counts
 {
     match take_opening(text) {
         Step::Refused(refusal) => Counts::Refused(refusal),
-        Step::Counted(n, e) => match take_subtasks(text, e, n, times, arrows) {
-            Step::Refused(refusal) => Counts::Refused(refusal),
-            Step::Counted(a, f) => match take_closing(text, f, n + 1) {
-                Check::Refused(refusal) => Counts::Refused(refusal),
-                Check::Sound => Counts::Read(GraphSize {
-                    subtasks: n,
-                    arrows: a,
-                }),
-            },
-        },
+        Step::Counted(n, e) => read_tasks(text, e, n, times, arrows),
     }
 }
 
