@@ -1,12 +1,10 @@
-// Runs the planner on the outside texts of data/ and compares what it says with the stored outputs, then on the examples of document 01.
-mod examples;
+// Runs the planner on the outside texts of data/ and compares what it says with the stored outputs.
 mod stored;
 
-use crate::examples::print_examples;
 use crate::stored::agrees;
 use libc::STDOUT_FILENO;
-use text::line_after;
-use text::next_field;
+ghost use Prim.Native.Nat.{_≤_};
+ghost use lib.ListN.{length};
 ghost use Rattle.io.specs.Counts.{Counts};
 
 // What a file of data/ begins with.
@@ -33,6 +31,21 @@ fn compare(name: &[u8], output_name: &[u8]) {
     }
 }
 
+// The place at which the line at `at` ends.
+fn line_end(list: &[u8], at: usize) -> usize
+    requires { ⌜ at ≤ length (now list) ⌝ }
+    ensures { λ r. ⌜ (at ≤ r) × (r ≤ length (now (list .entry))) ⌝ }
+{
+    let mut i = at;
+    while i < list.len() {
+        if list[i] == 10 {
+            return i;
+        }
+        i += 1;
+    }
+    i
+}
+
 // The texts and their stored outputs, by name, a line each; at most 64.
 fn compare_all(texts: &[u8], outputs: &[u8]) {
     let mut at: usize = 0;
@@ -42,9 +55,14 @@ fn compare_all(texts: &[u8], outputs: &[u8]) {
         if texts.len() <= at {
             return;
         }
-        compare(next_field(texts, at), next_field(outputs, with));
-        at = line_after(texts, at);
-        with = line_after(outputs, with);
+        if outputs.len() <= with {
+            return;
+        }
+        let end = line_end(texts, at);
+        let output_end = line_end(outputs, with);
+        compare(&texts[at..end], &outputs[with..output_end]);
+        at = end + 1;
+        with = output_end + 1;
         k += 1;
     }
 }
@@ -55,5 +73,4 @@ fn main() {
     let size = read_file(b"texts", &mut texts);
     let length = read_file(b"outputs", &mut outputs);
     compare_all(&texts[..size], &outputs[..length]);
-    print_examples();
 }

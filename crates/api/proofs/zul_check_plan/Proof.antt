@@ -17,16 +17,14 @@ use ghost.Atoms.{Atoms, sem}
 use contract.Lifetimes.{Lfts, Shares}
 use contract.Monad.{Fun, fact}
 use contract.Running.{givenOf, tables, tablesOf}
-use types.Kit.{Given, ‵, raw, some, later, _⊛_, ⋆, _$_, _∵_, !, qed, by, move, keep, drop, use0, use1, split, join, group, pick, fsplit, fjoin, suffices, frame, await, done}
+use types.Kit.{Given, ‵, raw, some, later, _⊛_, ⋆, _$_, _∵_, !, qed, by, move, keep, drop, use0, use1, split, join, group, pick, fjoin, suffices, frame, await, done}
 use types.Run.{look, init, forget, stop, from, load, and-then, no-more, land, returns, enter, alloc1, alloc0, params1, pass1, pass0, free1, free0}
 use sound.WpLaws.{FmC, fmOf, WpFn-mono}
-use denote.RattleType.{RattleType, owns}
 use denote.Laws.{Is, shows}
 use denote.Plain.{uint-makes, uint-vals, uint-tells}
 use denote.Builtin.{u16, u32}
-use denote.Array.{Array}
 use denote.Ref.{RefT}
-use denote.Slice.{sliceVal, ShrSlice, slice-vals, shr-slice-tells, shr-slice-copy}
+use denote.Slice.{slice-vals, shr-slice-tells}
 use denote.Steps.{owned, facts, peeks, heard, nothing}
 use denote.Struct.Laws as LL
 use denote.Enum.Laws as EL
@@ -44,11 +42,11 @@ use Rattle.terms.specs.declared.PlanEnd.{PlanEnd}
 use Rattle.terms.specs.Replies.{IsChecked}
 use Rattle.api.specs.declared.FlatEnd.{FlatEnd}
 use Rattle.api.specs.Flats.{Flattens, flatEnd}
-use Rattle.terms.proofs.Entry as T
 use Rattle.terms.proofs.PlanEnd as E
 use Rattle.terms.proofs.PlanEnd.Laws as E′
 use Rattle.api.proofs.FlatEnd as F
 use Rattle.api.proofs.FlatEnd.Laws as F′
+use Rattle.plans.proofs.Lending.{Row, Arrow, lent, TimesOwn, ArrowsOwn, ReadPlanOwn, CheckOwn, check-twice}
 use Rattle.plans.proofs.check_plan as check
 use Rattle.plans.proofs.check_plan.Symbol as check-def
 use Rattle.plans.proofs.check_plan.Met as check-thm
@@ -60,14 +58,8 @@ use Rattle.api.proofs.zul_check_plan as f
 use Rattle.api.proofs.zul_check_plan.Statement as stated
 use Rattle.api.proofs.zul_check_plan.Code as code
 
-abbrev R : RattleType
-R = T.the-row
-
-abbrev Arrow : RattleType
-Arrow = Array u16 2
-
 abbrev stayed : Stays (f.ended .signature .params) (f.ended .kept)
-stayed = (stay-none-slice (0 ∷ []) tt (plain (λ _. u16)) yes, (stay-none-slice (1 ∷ []) tt (plain (λ _. Arrow)) yes, (stay-none (λ _. u32) yes, (stay-none-slice (2 ∷ []) tt (plain (λ _. R)) yes, tt))))
+stayed = (stay-none-slice (0 ∷ []) tt (plain (λ _. u16)) yes, (stay-none-slice (1 ∷ []) tt (plain (λ _. Arrow)) yes, (stay-none (λ _. u32) yes, (stay-none-slice (2 ∷ []) tt (plain (λ _. Row)) yes, tt))))
 
 module _ {M : Type 1} (𝓤 : URA M) (H : Heap 𝓤) (A : Atoms 𝓤) (mem : Memory → SProp 𝓤) (run : Routine → Fun 𝓤) where
   -- the contracts that the proof cites
@@ -92,13 +84,13 @@ module _ {M : Type 1} (𝓤 : URA M) (H : Heap 𝓤) (A : Atoms 𝓤) (W : Given
   a = (x₁, (x₂, (m, (x₄, tt))))
 
   abbrev v₁ : Val
-  v₁ = sliceVal (x₁ .ptr) (length (x₁ .now))
+  v₁ = lent x₁
 
   abbrev v₂ : Val
-  v₂ = sliceVal (x₂ .ptr) (length (x₂ .now))
+  v₂ = lent x₂
 
   abbrev v₄ : Val
-  v₄ = sliceVal (x₄ .ptr) (length (x₄ .now))
+  v₄ = lent x₄
 
   abbrev at : Vals f.signature κs
   at = (v₁ ∷ [], (v₂ ∷ [], (vint w32 m ∷ [], (v₄ ∷ [], tt))))
@@ -108,25 +100,16 @@ module _ {M : Type 1} (𝓤 : URA M) (H : Heap 𝓤) (A : Atoms 𝓤) (W : Given
 
   -- what the parameters own
   abbrev O₁ : Fml
-  O₁ = ShrSlice (named 0) κ₀ u16 .own x₁ (v₁ ∷ [])
+  O₁ = TimesOwn κ₀ x₁
 
   abbrev O₂ : Fml
-  O₂ = ShrSlice (named 1) κ₁ Arrow .own x₂ (v₂ ∷ [])
+  O₂ = ArrowsOwn κ₁ x₂
 
   abbrev O₄ : Fml
-  O₄ = ShrSlice (named 2) κ₂ R .own x₄ (v₄ ∷ [])
+  O₄ = ReadPlanOwn κ₂ x₄
 
   abbrev All : Fml
-  All = owns (ShrSlice (named 0) κ₀ u16 ∷ ShrSlice (named 1) κ₁ Arrow ∷ u32 ∷ ShrSlice (named 2) κ₂ R ∷ []) a at
-
-  twice : ent 𝓤 (sem 𝓤 H A All) (⋆ 𝓤 H A (‵ All ∷ ‵ O₁ ∷ ‵ O₂ ∷ ‵ O₄ ∷ []))
-  twice =
-      qed W (‵ All ∷ []) ∵
-      fsplit ! $ use1 W (‵ O₁ ⊛ ‵ O₁) (shr-slice-copy 𝓤 H A W (named 0) κ₀ u16 .twice x₁ (v₁ ∷ [])) $ split ! $ move ! (2 ∷ []) $
-      fsplit ! $ use1 W (‵ O₂ ⊛ ‵ O₂) (shr-slice-copy 𝓤 H A W (named 1) κ₁ Arrow .twice x₂ (v₂ ∷ [])) $ split ! $ move ! (2 ∷ []) $ fsplit ! $ move ! (1 ∷ []) $
-      fsplit ! $ use1 W (‵ O₄ ⊛ ‵ O₄) (shr-slice-copy 𝓤 H A W (named 2) κ₂ R .twice x₄ (v₄ ∷ [])) $ split ! $
-      -- [O₄; O₄; true; m's; O₂; O₂; O₁; O₁]
-      move ! (0 ∷ 2 ∷ []) $ fjoin ! $ move ! (2 ∷ 0 ∷ []) $ fjoin ! $ move ! (2 ∷ 0 ∷ []) $ fjoin ! $ move ! (3 ∷ 0 ∷ []) $ fjoin ! $ move ! (0 ∷ 3 ∷ 2 ∷ 1 ∷ []) $ done !
+  All = CheckOwn κ₀ κ₁ κ₂ x₁ x₂ m x₄
 
   -- what each callee's triple binds outside, and that the caller has what it asks
   abbrev to-check : Check 𝓤 H A mem run .Ghost
@@ -164,7 +147,7 @@ module _ {M : Type 1} (𝓤 : URA M) (H : Heap 𝓤) (A : Atoms 𝓤) (W : Given
     walk : ent 𝓤 (onEntry 𝓤 H A f.signature κs qs a at) (WpFn 𝓤 H C Λ code.function (v₁ ∷ v₂ ∷ vint w32 m ∷ v₄ ∷ []) Post)
     walk =
         qed W ((‵ (flft κ₀ q₀) ⊛ ‵ (flft κ₁ q₁) ⊛ ‵ (flft κ₂ q₂) ⊛ ‵ ftrue) ∷ ‵ All ∷ []) ∵
-        split ! $ move ! (1 ∷ []) $ split ! $ move ! (1 ∷ []) $ split ! $ move ! (4 ∷ []) $ use1 W (‵ All ⊛ ‵ O₁ ⊛ ‵ O₂ ⊛ ‵ O₄) twice $ split ! $ move ! (1 ∷ []) $ split ! $ move ! (1 ∷ []) $ split ! $
+        split ! $ move ! (1 ∷ []) $ split ! $ move ! (1 ∷ []) $ split ! $ move ! (4 ∷ []) $ use1 W (‵ All ⊛ ‵ O₁ ⊛ ‵ O₂ ⊛ ‵ O₄) (check-twice κ₀ κ₁ κ₂ x₁ x₂ m x₄ 𝓤 H A W) $ split ! $ move ! (1 ∷ []) $ split ! $ move ! (1 ∷ []) $ split ! $
         keep ! (7 ∷ 6 ∷ 4 ∷ 2 ∷ 0 ∷ 1 ∷ 3 ∷ []) $
         -- [the three tokens; O₁; O₂; O₄; All]
         enter ! C Λ code.function (v₁ ∷ v₂ ∷ vint w32 m ∷ v₄ ∷ []) _ $
@@ -192,14 +175,14 @@ module _ {M : Type 1} (𝓤 : URA M) (H : Heap 𝓤) (A : Atoms 𝓤) (W : Given
   zul-check-plan-walks : (C : Calls 𝓤 H) (Λ : Loops 𝓤 H) → FmC 𝓤 H (W .laws) C → Triple 𝓤 (C check-def.name) (Check 𝓤 H A mem run) → Triple 𝓤 (C flat-def.name) (Flat 𝓤 H A mem run)
       → Walks 𝓤 H A f.ended stayed (WpFn 𝓤 H C Λ code.function) (f.clauses 𝓤 H A mem run)
   zul-check-plan-walks C Λ fm k₁ k₂ = walked 𝓤 H A f.ended stayed (f.clauses 𝓤 H A mem run) (WpFn 𝓤 H C Λ code.function)
-      (λ κs. (slice-vals, (slice-vals, (uint-vals w32, (slice-vals, tt))))) (λ κs. (shr-slice-tells (named 0) (κs .0) u16, (shr-slice-tells (named 1) (κs .1 .0) Arrow, (uint-tells w32, (shr-slice-tells (named 2) (κs .1 .1 .0) R, tt)))))
+      (λ κs. (slice-vals, (slice-vals, (uint-vals w32, (slice-vals, tt))))) (λ κs. (shr-slice-tells (named 0) (κs .0) u16, (shr-slice-tells (named 1) (κs .1 .0) Arrow, (uint-tells w32, (shr-slice-tells (named 2) (κs .1 .1 .0) Row, tt)))))
       (λ κs qs bounds a g are. via 𝓤 _ (fst∗ 𝓤 _ (emp 𝓤)) (walk 𝓤 H A W mem run (κs .0) (κs .1 .0) (κs .1 .1 .0) (qs .0) (qs .1 .0) (qs .1 .1 .0) (a .0) (a .1 .0) (a .1 .1 .0) (a .1 .1 .1 .0) (are .1 .1 .0 .1) (are .0 .0 .1 .0) (are .1 .0 .0 .1 .0) (are .1 .1 .1 .0 .0 .1 .0) C Λ fm k₁ k₂))
 
 zul-check-plan-meets : {M : Type 1} (𝓤 : URA M) (H : Heap 𝓤) (A : Atoms 𝓤) (W : Given 𝓤 H A) (mem : Memory → SProp 𝓤) (run : Routine → Fun 𝓤) (𝓣 : Tables 𝓤 H)
     → Triple 𝓤 (𝓣 .C check-def.name) (Check 𝓤 H A mem run) → Triple 𝓤 (𝓣 .C flat-def.name) (Flat 𝓤 H A mem run)
     → Meets 𝓤 H A f.signature (WpFn 𝓤 H (𝓣 .C) (𝓣 .Λ) code.function) (f.spec 𝓤 H A mem run)
 zul-check-plan-meets 𝓤 H A W mem run 𝓣 k₁ k₂ =
-    walk-meets 𝓤 H A f.ended stayed W (goes-none-slice 𝓤 H A W 3 (0 ∷ []) tt (plain (λ _. u16)) yes, (goes-none-slice 𝓤 H A W 3 (1 ∷ []) tt (plain (λ _. Arrow)) yes, (goes-none 𝓤 H A W 3 (λ _. u32) yes (λ κs x f. refl), (goes-none-slice 𝓤 H A W 3 (2 ∷ []) tt (plain (λ _. R)) yes, tt))))
+    walk-meets 𝓤 H A f.ended stayed W (goes-none-slice 𝓤 H A W 3 (0 ∷ []) tt (plain (λ _. u16)) yes, (goes-none-slice 𝓤 H A W 3 (1 ∷ []) tt (plain (λ _. Arrow)) yes, (goes-none 𝓤 H A W 3 (λ _. u32) yes (λ κs x f. refl), (goes-none-slice 𝓤 H A W 3 (2 ∷ []) tt (plain (λ _. Row)) yes, tt))))
     (f.clauses 𝓤 H A mem run) (WpFn 𝓤 H (𝓣 .C) (𝓣 .Λ) code.function) (WpFn-mono 𝓤 H (W .laws) 𝓣 code.function) (zul-check-plan-walks 𝓤 H A W mem run (𝓣 .C) (𝓣 .Λ) (fmOf 𝓤 H (W .laws) 𝓣) k₁ k₂)
 
 pub zul-check-plan-spec : {M : Type 1} → stated.statement M

@@ -21,13 +21,11 @@ use types.Kit.{Given, ‵, raw, some, later, _⊛_, ⋆, _$_, _∵_, !, qed, by,
 use types.Part.{whole, sub, look-in, agg}
 use types.Run.{look, init, forget, stop, hop, fld, from, load, addr, and-then, no-more, assigns, land, returns, enter, alloc1, alloc0, params1, pass1, pass0, free1, free0}
 use sound.WpLaws.{FmC, fmOf, WpFn-mono}
-use denote.RattleType.{RattleType, owns}
 use denote.Laws.{Is, shows}
 use denote.Plain.{uint-makes, uint-vals, uint-tells}
 use denote.Builtin.{u16, u32}
-use denote.Array.{Array}
 use denote.Ref.{RefT}
-use denote.Slice.{sliceVal, ShrSlice, MutSlice, finally, slice-vals, shr-slice-tells, shr-slice-copy, mut-slice-tells}
+use denote.Slice.{finally, slice-vals, shr-slice-tells, mut-slice-tells}
 use denote.Steps.{owned, facts, peeks, heard, nothing}
 use denote.Struct.Laws as LL
 use denote.Enum.Laws as EL
@@ -45,11 +43,11 @@ use Rattle.terms.specs.declared.PlanEnd.{PlanEnd}
 use Rattle.terms.specs.Replies.{IsListed}
 use Rattle.api.specs.declared.FlatEnd.{FlatEnd}
 use Rattle.api.specs.Flats.{Flattens, flatEnd}
-use Rattle.terms.proofs.Entry as T
 use Rattle.terms.proofs.PlanEnd as E
 use Rattle.terms.proofs.PlanEnd.Laws as E′
 use Rattle.api.proofs.FlatEnd as F
 use Rattle.api.proofs.FlatEnd.Laws as F′
+use Rattle.plans.proofs.Lending.{Row, Arrow, lent, TimesOwn, ArrowsOwn, OrderOwn, WrittenPlanOwn, ListOwn, list-twice}
 use Rattle.plans.proofs.list_plan as list
 use Rattle.plans.proofs.list_plan.Symbol as list-def
 use Rattle.plans.proofs.list_plan.Met as list-thm
@@ -61,14 +59,8 @@ use Rattle.api.proofs.zul_list_plan as f
 use Rattle.api.proofs.zul_list_plan.Statement as stated
 use Rattle.api.proofs.zul_list_plan.Code as code
 
-abbrev R : RattleType
-R = T.the-row
-
-abbrev Arrow : RattleType
-Arrow = Array u16 2
-
 abbrev stayed : Stays (f.ended .signature .params) (f.ended .kept)
-stayed = (stay-none-slice (0 ∷ []) tt (plain (λ _. u16)) yes, (stay-none-slice (1 ∷ []) tt (plain (λ _. Arrow)) yes, (stay-none (λ _. u32) yes, (stay-none-slice (2 ∷ []) tt (plain (λ _. u16)) yes, (gave-slice (3 ∷ []) tt (plain (λ _. R)), tt)))))
+stayed = (stay-none-slice (0 ∷ []) tt (plain (λ _. u16)) yes, (stay-none-slice (1 ∷ []) tt (plain (λ _. Arrow)) yes, (stay-none (λ _. u32) yes, (stay-none-slice (2 ∷ []) tt (plain (λ _. u16)) yes, (gave-slice (3 ∷ []) tt (plain (λ _. Row)), tt)))))
 
 module _ {M : Type 1} (𝓤 : URA M) (H : Heap 𝓤) (A : Atoms 𝓤) (mem : Memory → SProp 𝓤) (run : Routine → Fun 𝓤) where
   -- the contracts that the proof cites
@@ -93,16 +85,16 @@ module _ {M : Type 1} (𝓤 : URA M) (H : Heap 𝓤) (A : Atoms 𝓤) (W : Given
   a = (x₁, (x₂, (m, (x₄, (x₅, tt)))))
 
   abbrev v₁ : Val
-  v₁ = sliceVal (x₁ .ptr) (length (x₁ .now))
+  v₁ = lent x₁
 
   abbrev v₂ : Val
-  v₂ = sliceVal (x₂ .ptr) (length (x₂ .now))
+  v₂ = lent x₂
 
   abbrev v₄ : Val
-  v₄ = sliceVal (x₄ .ptr) (length (x₄ .now))
+  v₄ = lent x₄
 
   abbrev v₅ : Val
-  v₅ = sliceVal (x₅ .ptr) (length (x₅ .now))
+  v₅ = lent x₅
 
   abbrev at : Vals f.signature κs
   at = (v₁ ∷ [], (v₂ ∷ [], (vint w32 m ∷ [], (v₄ ∷ [], (v₅ ∷ [], tt)))))
@@ -112,28 +104,19 @@ module _ {M : Type 1} (𝓤 : URA M) (H : Heap 𝓤) (A : Atoms 𝓤) (W : Given
 
   -- what the parameters own
   abbrev O₁ : Fml
-  O₁ = ShrSlice (named 0) κ₀ u16 .own x₁ (v₁ ∷ [])
+  O₁ = TimesOwn κ₀ x₁
 
   abbrev O₂ : Fml
-  O₂ = ShrSlice (named 1) κ₁ Arrow .own x₂ (v₂ ∷ [])
+  O₂ = ArrowsOwn κ₁ x₂
 
   abbrev O₄ : Fml
-  O₄ = ShrSlice (named 2) κ₂ u16 .own x₄ (v₄ ∷ [])
+  O₄ = OrderOwn κ₂ x₄
 
   abbrev O₅ : Fml
-  O₅ = MutSlice (named 3) κ₃ R .own x₅ (v₅ ∷ [])
+  O₅ = WrittenPlanOwn κ₃ x₅
 
   abbrev All : Fml
-  All = owns (ShrSlice (named 0) κ₀ u16 ∷ ShrSlice (named 1) κ₁ Arrow ∷ u32 ∷ ShrSlice (named 2) κ₂ u16 ∷ MutSlice (named 3) κ₃ R ∷ []) a at
-
-  twice : ent 𝓤 (sem 𝓤 H A All) (⋆ 𝓤 H A (‵ O₁ ∷ ‵ O₂ ∷ ‵ O₄ ∷ ‵ O₅ ∷ ‵ O₁ ∷ ‵ O₂ ∷ ‵ O₄ ∷ []))
-  twice =
-      qed W (‵ All ∷ []) ∵
-      fsplit ! $ use1 W (‵ O₁ ⊛ ‵ O₁) (shr-slice-copy 𝓤 H A W (named 0) κ₀ u16 .twice x₁ (v₁ ∷ [])) $ split ! $ move ! (2 ∷ []) $
-      fsplit ! $ use1 W (‵ O₂ ⊛ ‵ O₂) (shr-slice-copy 𝓤 H A W (named 1) κ₁ Arrow .twice x₂ (v₂ ∷ [])) $ split ! $ move ! (2 ∷ []) $ fsplit ! $ drop ! $
-      fsplit ! $ use1 W (‵ O₄ ⊛ ‵ O₄) (shr-slice-copy 𝓤 H A W (named 2) κ₂ u16 .twice x₄ (v₄ ∷ [])) $ split ! $ move ! (2 ∷ []) $ fsplit ! $
-      -- [O₅; true; O₄; O₄; O₂; O₂; O₁; O₁]
-      keep ! (6 ∷ 4 ∷ 2 ∷ 0 ∷ 7 ∷ 5 ∷ 3 ∷ []) $ done !
+  All = ListOwn κ₀ κ₁ κ₂ κ₃ x₁ x₂ m x₄ x₅
 
   -- what each callee's triple binds outside, and that the caller has what it asks
   abbrev to-list : ListPlan 𝓤 H A mem run .Ghost
@@ -159,9 +142,9 @@ module _ {M : Type 1} (𝓤 : URA M) (H : Heap 𝓤) (A : Atoms 𝓤) (W : Given
     flat-of s = exE 𝓤 _ (λ ws. snd∗ 𝓤 (sem 𝓤 H A (lasts flat.ended tt (r, tt) ws)) (fact 𝓤 (s ≡ flatEnd r)))
 
   exits : (s : FlatEnd) (w : Val) (zs : List Entry) → length zs ≡ length (x₅ .now) → Flattens (Listed zs) flatEnd s
-      → ent 𝓤 (⋆ 𝓤 H A (‵ (flft κ₀ q₀) ∷ ‵ (flft κ₁ q₁) ∷ ‵ (flft κ₂ q₂) ∷ ‵ (flft κ₃ q₃) ∷ ‵ O₁ ∷ ‵ O₂ ∷ ‵ O₄ ∷ ‵ (finally R (x₅ .name) zs) ∷ ‵ (F.the-row .own s (w ∷ [])) ∷ [])) (Post w)
+      → ent 𝓤 (⋆ 𝓤 H A (‵ (flft κ₀ q₀) ∷ ‵ (flft κ₁ q₁) ∷ ‵ (flft κ₂ q₂) ∷ ‵ (flft κ₃ q₃) ∷ ‵ O₁ ∷ ‵ O₂ ∷ ‵ O₄ ∷ ‵ (finally Row (x₅ .name) zs) ∷ ‵ (F.the-row .own s (w ∷ [])) ∷ [])) (Post w)
   exits s w zs l e =
-      qed W (‵ (flft κ₀ q₀) ∷ ‵ (flft κ₁ q₁) ∷ ‵ (flft κ₂ q₂) ∷ ‵ (flft κ₃ q₃) ∷ ‵ O₁ ∷ ‵ O₂ ∷ ‵ O₄ ∷ ‵ (finally R (x₅ .name) zs) ∷ ‵ (F.the-row .own s (w ∷ [])) ∷ []) ∵
+      qed W (‵ (flft κ₀ q₀) ∷ ‵ (flft κ₁ q₁) ∷ ‵ (flft κ₂ q₂) ∷ ‵ (flft κ₃ q₃) ∷ ‵ O₁ ∷ ‵ O₂ ∷ ‵ O₄ ∷ ‵ (finally Row (x₅ .name) zs) ∷ ‵ (F.the-row .own s (w ∷ [])) ∷ []) ∵
       suffices ! _ (ends-at 𝓤 H A f.ended stayed (f.clauses 𝓤 H A mem run) W ((κs, qs, tt, a, at), tt) w s (tt, (tt, (tt, (tt, (zs, tt))))) (tt, (tt, (tt, (tt, (l, tt)))))) $ says ! e $
       nothing ! $ move ! (4 ∷ 0 ∷ []) $ join ! $ move ! (3 ∷ 0 ∷ []) $ join ! $ move ! (2 ∷ 0 ∷ []) $ join ! $ move ! (1 ∷ 0 ∷ []) $ join ! $ frame ! $
       -- [O₁; O₂; O₄; the last list; the flat reply]
@@ -171,7 +154,7 @@ module _ {M : Type 1} (𝓤 : URA M) (H : Heap 𝓤) (A : Atoms 𝓤) (W : Given
     walk : ent 𝓤 (onEntry 𝓤 H A f.signature κs qs a at) (WpFn 𝓤 H C Λ code.function (v₁ ∷ v₂ ∷ vint w32 m ∷ v₄ ∷ v₅ ∷ []) Post)
     walk =
         qed W ((‵ (flft κ₀ q₀) ⊛ ‵ (flft κ₁ q₁) ⊛ ‵ (flft κ₂ q₂) ⊛ ‵ (flft κ₃ q₃) ⊛ ‵ ftrue) ∷ ‵ All ∷ []) ∵
-        split ! $ move ! (1 ∷ []) $ split ! $ move ! (1 ∷ []) $ split ! $ move ! (1 ∷ []) $ split ! $ move ! (5 ∷ []) $ use1 W (‵ O₁ ⊛ ‵ O₂ ⊛ ‵ O₄ ⊛ ‵ O₅ ⊛ ‵ O₁ ⊛ ‵ O₂ ⊛ ‵ O₄) twice $
+        split ! $ move ! (1 ∷ []) $ split ! $ move ! (1 ∷ []) $ split ! $ move ! (1 ∷ []) $ split ! $ move ! (5 ∷ []) $ use1 W (‵ O₁ ⊛ ‵ O₂ ⊛ ‵ O₄ ⊛ ‵ O₅ ⊛ ‵ O₁ ⊛ ‵ O₂ ⊛ ‵ O₄) (list-twice κ₀ κ₁ κ₂ κ₃ x₁ x₂ m x₄ x₅ 𝓤 H A W) $
         split ! $ move ! (1 ∷ []) $ split ! $ move ! (1 ∷ []) $ split ! $ move ! (1 ∷ []) $ split ! $ move ! (1 ∷ []) $ split ! $ move ! (1 ∷ []) $ split ! $
         -- [O₂; O₄; O₁; O₅; O₄; O₂; O₁; κ₃'s token; true; κ₂'s; κ₁'s; κ₀'s]
         keep ! (11 ∷ 10 ∷ 9 ∷ 7 ∷ 6 ∷ 5 ∷ 4 ∷ 3 ∷ 2 ∷ 0 ∷ 1 ∷ []) $
@@ -206,14 +189,14 @@ module _ {M : Type 1} (𝓤 : URA M) (H : Heap 𝓤) (A : Atoms 𝓤) (W : Given
   zul-list-plan-walks : (C : Calls 𝓤 H) (Λ : Loops 𝓤 H) → FmC 𝓤 H (W .laws) C → Triple 𝓤 (C list-def.name) (ListPlan 𝓤 H A mem run) → Triple 𝓤 (C flat-def.name) (Flat 𝓤 H A mem run)
       → Walks 𝓤 H A f.ended stayed (WpFn 𝓤 H C Λ code.function) (f.clauses 𝓤 H A mem run)
   zul-list-plan-walks C Λ fm k₁ k₂ = walked 𝓤 H A f.ended stayed (f.clauses 𝓤 H A mem run) (WpFn 𝓤 H C Λ code.function)
-      (λ κs. (slice-vals, (slice-vals, (uint-vals w32, (slice-vals, (slice-vals, tt)))))) (λ κs. (shr-slice-tells (named 0) (κs .0) u16, (shr-slice-tells (named 1) (κs .1 .0) Arrow, (uint-tells w32, (shr-slice-tells (named 2) (κs .1 .1 .0) u16, (mut-slice-tells (named 3) (κs .1 .1 .1 .0) R, tt))))))
+      (λ κs. (slice-vals, (slice-vals, (uint-vals w32, (slice-vals, (slice-vals, tt)))))) (λ κs. (shr-slice-tells (named 0) (κs .0) u16, (shr-slice-tells (named 1) (κs .1 .0) Arrow, (uint-tells w32, (shr-slice-tells (named 2) (κs .1 .1 .0) u16, (mut-slice-tells (named 3) (κs .1 .1 .1 .0) Row, tt))))))
       (λ κs qs bounds a g are. via 𝓤 _ (fst∗ 𝓤 _ (emp 𝓤)) (walk 𝓤 H A W mem run (κs .0) (κs .1 .0) (κs .1 .1 .0) (κs .1 .1 .1 .0) (qs .0) (qs .1 .0) (qs .1 .1 .0) (qs .1 .1 .1 .0) (a .0) (a .1 .0) (a .1 .1 .0) (a .1 .1 .1 .0) (a .1 .1 .1 .1 .0) (are .1 .1 .0 .1) (are .0 .0 .1 .0) (are .1 .0 .0 .1 .0) (are .1 .1 .1 .0 .0 .1 .0) (are .1 .1 .1 .1 .0 .0 .1 .0) C Λ fm k₁ k₂))
 
 zul-list-plan-meets : {M : Type 1} (𝓤 : URA M) (H : Heap 𝓤) (A : Atoms 𝓤) (W : Given 𝓤 H A) (mem : Memory → SProp 𝓤) (run : Routine → Fun 𝓤) (𝓣 : Tables 𝓤 H)
     → Triple 𝓤 (𝓣 .C list-def.name) (ListPlan 𝓤 H A mem run) → Triple 𝓤 (𝓣 .C flat-def.name) (Flat 𝓤 H A mem run)
     → Meets 𝓤 H A f.signature (WpFn 𝓤 H (𝓣 .C) (𝓣 .Λ) code.function) (f.spec 𝓤 H A mem run)
 zul-list-plan-meets 𝓤 H A W mem run 𝓣 k₁ k₂ =
-    walk-meets 𝓤 H A f.ended stayed W (goes-none-slice 𝓤 H A W 4 (0 ∷ []) tt (plain (λ _. u16)) yes, (goes-none-slice 𝓤 H A W 4 (1 ∷ []) tt (plain (λ _. Arrow)) yes, (goes-none 𝓤 H A W 4 (λ _. u32) yes (λ κs x f. refl), (goes-none-slice 𝓤 H A W 4 (2 ∷ []) tt (plain (λ _. u16)) yes, (goes-gave-slice 𝓤 H A W 4 3 tt (plain (λ _. R)), tt)))))
+    walk-meets 𝓤 H A f.ended stayed W (goes-none-slice 𝓤 H A W 4 (0 ∷ []) tt (plain (λ _. u16)) yes, (goes-none-slice 𝓤 H A W 4 (1 ∷ []) tt (plain (λ _. Arrow)) yes, (goes-none 𝓤 H A W 4 (λ _. u32) yes (λ κs x f. refl), (goes-none-slice 𝓤 H A W 4 (2 ∷ []) tt (plain (λ _. u16)) yes, (goes-gave-slice 𝓤 H A W 4 3 tt (plain (λ _. Row)), tt)))))
     (f.clauses 𝓤 H A mem run) (WpFn 𝓤 H (𝓣 .C) (𝓣 .Λ) code.function) (WpFn-mono 𝓤 H (W .laws) 𝓣 code.function) (zul-list-plan-walks 𝓤 H A W mem run (𝓣 .C) (𝓣 .Λ) (fmOf 𝓤 H (W .laws) 𝓣) k₁ k₂)
 
 pub zul-list-plan-spec : {M : Type 1} → stated.statement M

@@ -17,17 +17,17 @@ use ghost.Atoms.{Atoms, sem}
 use contract.Lifetimes.{Lfts, Shares}
 use contract.Monad.{Fun, fact}
 use contract.Running.{givenOf, tables, tablesOf}
-use types.Kit.{Given, ‵, raw, some, later, _⊛_, ⋆, _$_, _∵_, !, qed, by, move, keep, drop, use0, use1, use2, split, join, group, pick, fsplit, fjoin, suffices, frame, await, done}
+use types.Kit.{Given, ‵, raw, some, later, _⊛_, ⋆, _$_, _∵_, !, qed, by, move, keep, drop, use0, use1, use2, split, join, group, pick, fjoin, suffices, frame, await, done}
 use types.Part.{whole, sub, look-in}
 use types.Run.{look, init, forget, stop, fld, from, load, of-opd, and-then, no-more, assigns, land, returns, enter, alloc1, alloc0, params1, pass1, pass0, free1, free0}
 use sound.WpLaws.{FmC, fmOf, WpFn-mono}
-use denote.RattleType.{RattleType, owns}
+use denote.RattleType.{RattleType}
 use denote.Laws.{Is, shows}
 use denote.Plain.{uint-makes, uint-vals, uint-tells, uint-lawful}
 use denote.Builtin.{u16, u32, usize}
 use denote.Array.{Array, array-makes, array-lawful}
 use denote.Ref.{RefT}
-use denote.Slice.{sliceVal, ShrSlice, slice-vals, shr-slice-tells, shr-slice-copy}
+use denote.Slice.{slice-vals, shr-slice-tells}
 use denote.Steps.{owned, facts, peeks, heard, nothing}
 use denote.Struct.Laws as LL
 use denote.Enum.Laws as EL
@@ -45,6 +45,7 @@ use Rattle.terms.specs.declared.PlanEnd.{PlanEnd}
 use Rattle.terms.specs.Replies.{IsChecked}
 use Rattle.plancheck.specs.Tables.{ChecksTable}
 use Rattle.plans.specs.Copies.{over}
+use Rattle.plans.proofs.Lending.{Row, Arrow, lent, TimesOwn, ArrowsOwn, ReadPlanOwn, CheckOwn, check-twice}
 use Rattle.plans.proofs.Rows.{checked}
 use Rattle.terms.proofs.Entry as T
 use Rattle.terms.proofs.Entry.Laws as T′
@@ -67,17 +68,11 @@ use Rattle.plans.proofs.check_plan as f
 use Rattle.plans.proofs.check_plan.Statement as stated
 use Rattle.plans.proofs.check_plan.Code as code
 
-abbrev R : RattleType
-R = T.the-row
-
 abbrev Table : RattleType
-Table = Array R 256
-
-abbrev Arrow : RattleType
-Arrow = Array u16 2
+Table = Array Row 256
 
 abbrev stayed : Stays (f.ended .signature .params) (f.ended .kept)
-stayed = (stay-none-slice (0 ∷ []) tt (plain (λ _. u16)) yes, (stay-none-slice (1 ∷ []) tt (plain (λ _. Arrow)) yes, (stay-none (λ _. u32) yes, (stay-none-slice (2 ∷ []) tt (plain (λ _. R)) yes, tt))))
+stayed = (stay-none-slice (0 ∷ []) tt (plain (λ _. u16)) yes, (stay-none-slice (1 ∷ []) tt (plain (λ _. Arrow)) yes, (stay-none (λ _. u32) yes, (stay-none-slice (2 ∷ []) tt (plain (λ _. Row)) yes, tt))))
 
 module _ {M : Type 1} (𝓤 : URA M) (H : Heap 𝓤) (A : Atoms 𝓤) (mem : Memory → SProp 𝓤) (run : Routine → Fun 𝓤) where
   -- the contracts that the proof cites
@@ -111,13 +106,13 @@ module _ {M : Type 1} (𝓤 : URA M) (H : Heap 𝓤) (A : Atoms 𝓤) (W : Given
   a = (x₁, (x₂, (m, (x₄, tt))))
 
   abbrev v₁ : Val
-  v₁ = sliceVal (x₁ .ptr) (length (x₁ .now))
+  v₁ = lent x₁
 
   abbrev v₂ : Val
-  v₂ = sliceVal (x₂ .ptr) (length (x₂ .now))
+  v₂ = lent x₂
 
   abbrev v₄ : Val
-  v₄ = sliceVal (x₄ .ptr) n
+  v₄ = lent x₄
 
   abbrev at : Vals f.signature κs
   at = (v₁ ∷ [], (v₂ ∷ [], (vint w32 m ∷ [], (v₄ ∷ [], tt))))
@@ -127,28 +122,19 @@ module _ {M : Type 1} (𝓤 : URA M) (H : Heap 𝓤) (A : Atoms 𝓤) (W : Given
 
   -- what the parameters own
   abbrev O₁ : Fml
-  O₁ = ShrSlice (named 0) κ₀ u16 .own x₁ (v₁ ∷ [])
+  O₁ = TimesOwn κ₀ x₁
 
   abbrev O₂ : Fml
-  O₂ = ShrSlice (named 1) κ₁ Arrow .own x₂ (v₂ ∷ [])
+  O₂ = ArrowsOwn κ₁ x₂
 
   abbrev O₃ : Fml
   O₃ = u32 .own m (vint w32 m ∷ [])
 
   abbrev O₄ : Fml
-  O₄ = ShrSlice (named 2) κ₂ R .own x₄ (v₄ ∷ [])
+  O₄ = ReadPlanOwn κ₂ x₄
 
   abbrev All : Fml
-  All = owns (ShrSlice (named 0) κ₀ u16 ∷ ShrSlice (named 1) κ₁ Arrow ∷ u32 ∷ ShrSlice (named 2) κ₂ R ∷ []) a at
-
-  twice : ent 𝓤 (sem 𝓤 H A All) (⋆ 𝓤 H A (‵ All ∷ ‵ O₁ ∷ ‵ O₂ ∷ ‵ O₄ ∷ []))
-  twice =
-      qed W (‵ All ∷ []) ∵
-      fsplit ! $ use1 W (‵ O₁ ⊛ ‵ O₁) (shr-slice-copy 𝓤 H A W (named 0) κ₀ u16 .twice x₁ (v₁ ∷ [])) $ split ! $ move ! (2 ∷ []) $
-      fsplit ! $ use1 W (‵ O₂ ⊛ ‵ O₂) (shr-slice-copy 𝓤 H A W (named 1) κ₁ Arrow .twice x₂ (v₂ ∷ [])) $ split ! $ move ! (2 ∷ []) $ fsplit ! $ move ! (1 ∷ []) $
-      fsplit ! $ use1 W (‵ O₄ ⊛ ‵ O₄) (shr-slice-copy 𝓤 H A W (named 2) κ₂ R .twice x₄ (v₄ ∷ [])) $ split ! $
-      -- [O₄; O₄; true; O₃; O₂; O₂; O₁; O₁]
-      move ! (0 ∷ 2 ∷ []) $ fjoin ! $ move ! (2 ∷ 0 ∷ []) $ fjoin ! $ move ! (2 ∷ 0 ∷ []) $ fjoin ! $ move ! (3 ∷ 0 ∷ []) $ fjoin ! $ move ! (0 ∷ 3 ∷ 2 ∷ 1 ∷ []) $ done !
+  All = CheckOwn κ₀ κ₁ κ₂ x₁ x₂ m x₄
 
   -- what each callee's triple binds outside, and that the caller has what it asks
   abbrev to-fit : Fit 𝓤 H A mem run .Ghost
@@ -176,7 +162,7 @@ module _ {M : Type 1} (𝓤 : URA M) (H : Heap 𝓤) (A : Atoms 𝓤) (W : Given
     goes-in : Fitted k → ent 𝓤 (⋆ 𝓤 H A (‵ (flft κ₂ q₂) ∷ ‵ O₄ ∷ [])) (CopyIn 𝓤 H A mem run .pre to-in)
     goes-in h =
         qed W (‵ (flft κ₂ q₂) ∷ ‵ O₄ ∷ []) ∵ says ! (h .0, h .1) $ nothing ! $ move ! (1 ∷ 0 ∷ []) $ join ! $ frame ! $
-        nothing ! $ owned ! Table (Is Table) (array-makes 𝓤 H A W R (LL.makes T.the-type T′.the-plain 𝓤 H A) 256) t _ is₈ $ fjoin ! $ owned ! usize (Is usize) (uint-makes 𝓤 H A W w64) k _ is₇ $ fjoin ! $ move ! (1 ∷ 0 ∷ []) $ fjoin ! $ done !
+        nothing ! $ owned ! Table (Is Table) (array-makes 𝓤 H A W Row (LL.makes T.the-type T′.the-plain 𝓤 H A) 256) t _ is₈ $ fjoin ! $ owned ! usize (Is usize) (uint-makes 𝓤 H A W w64) k _ is₇ $ fjoin ! $ move ! (1 ∷ 0 ∷ []) $ fjoin ! $ done !
 
     in-of : (u : List Entry) → ent 𝓤 (ensured 𝓤 H A copy-in.ended (copy-in.clauses 𝓤 H A mem run) (κ₂, tt) (x₄, (k, (t, tt))) tt u) (fact 𝓤 (u ≡ over k (x₄ .now) t))
     in-of u = exE 𝓤 _ (λ ws. snd∗ 𝓤 (sem 𝓤 H A (lasts copy-in.ended (κ₂, tt) (x₄, (k, (t, tt))) ws)) (fact 𝓤 (u ≡ over k (x₄ .now) t)))
@@ -189,7 +175,7 @@ module _ {M : Type 1} (𝓤 : URA M) (H : Heap 𝓤) (A : Atoms 𝓤) (W : Given
     goes-check =
         qed W (‵ (flft κ₀ q₀) ∷ ‵ (flft κ₁ q₁) ∷ ‵ O₁ ∷ ‵ O₂ ∷ []) ∵ nothing ! $ move ! (2 ∷ 0 ∷ []) $ join ! $ move ! (1 ∷ 0 ∷ []) $ join ! $
         -- [the tokens; O₁; O₂]
-        nothing ! $ owned ! usize (Is usize) (uint-makes 𝓤 H A W w64) n _ (refl, gn) $ fjoin ! $ owned ! Table (Is Table) (array-makes 𝓤 H A W R (LL.makes T.the-type T′.the-plain 𝓤 H A) 256) u _ is₆ $ fjoin ! $
+        nothing ! $ owned ! usize (Is usize) (uint-makes 𝓤 H A W w64) n _ (refl, gn) $ fjoin ! $ owned ! Table (Is Table) (array-makes 𝓤 H A W Row (LL.makes T.the-type T′.the-plain 𝓤 H A) 256) u _ is₆ $ fjoin ! $
         owned ! u32 (Is u32) (uint-makes 𝓤 H A W w32) m _ (refl, gm) $ fjoin ! $ move ! (3 ∷ 0 ∷ []) $ fjoin ! $ move ! (2 ∷ 0 ∷ []) $ fjoin ! $ move ! (1 ∷ 0 ∷ []) $ join ! $ frame ! $ done !
 
     abbrev Said : PlanEnd → Type 0
@@ -209,7 +195,7 @@ module _ {M : Type 1} (𝓤 : URA M) (H : Heap 𝓤) (A : Atoms 𝓤) (W : Given
     walk : ent 𝓤 (onEntry 𝓤 H A f.signature κs qs a at) (WpFn 𝓤 H C Λ code.function (v₁ ∷ v₂ ∷ vint w32 m ∷ v₄ ∷ []) Post)
     walk =
         qed W ((‵ (flft κ₀ q₀) ⊛ ‵ (flft κ₁ q₁) ⊛ ‵ (flft κ₂ q₂) ⊛ ‵ ftrue) ∷ ‵ All ∷ []) ∵
-        split ! $ move ! (1 ∷ []) $ split ! $ move ! (1 ∷ []) $ split ! $ move ! (4 ∷ []) $ use1 W (‵ All ⊛ ‵ O₁ ⊛ ‵ O₂ ⊛ ‵ O₄) twice $ split ! $ move ! (1 ∷ []) $ split ! $ move ! (1 ∷ []) $ split ! $
+        split ! $ move ! (1 ∷ []) $ split ! $ move ! (1 ∷ []) $ split ! $ move ! (4 ∷ []) $ use1 W (‵ All ⊛ ‵ O₁ ⊛ ‵ O₂ ⊛ ‵ O₄) (check-twice κ₀ κ₁ κ₂ x₁ x₂ m x₄ 𝓤 H A W) $ split ! $ move ! (1 ∷ []) $ split ! $ move ! (1 ∷ []) $ split ! $
         keep ! (7 ∷ 6 ∷ 4 ∷ 2 ∷ 0 ∷ 1 ∷ 3 ∷ []) $
         -- [the three tokens; O₁; O₂; O₄; All]
         enter ! C Λ code.function (v₁ ∷ v₂ ∷ vint w32 m ∷ v₄ ∷ []) _ $
@@ -225,13 +211,13 @@ module _ {M : Type 1} (𝓤 : URA M) (H : Heap 𝓤) (A : Atoms 𝓤) (W : Given
         use0 W (raw (Blank 𝓤 H A mem run .pre to-blank)) goes-blank $ calls-at ! fm (Blank 𝓤 H A mem run) known-blank to-blank (no-more !) (λ w₈.
         use1 W (later (some (λ (t : List Entry). (‵ ftrue ⊛ ‵ (Table .own t (w₈ ∷ []))) ⊛ raw (ensured 𝓤 H A blank.ended (blank.clauses 𝓤 H A mem run) tt tt tt t)))) (id⊢ 𝓤 _) $ await ! tt $ pick ! (λ t.
         split ! $ move ! (1 ∷ []) $ drop ! $ split ! $ drop ! $ facts ! Table (Is Table) (shows 𝓤 H A Table) t (w₈ ∷ []) (λ is₈.
-        land ! (from ! (stop !)) (init ! 0 refl (array-lawful 𝓤 H A W R (LL.lawful T.the-type T′.the-laws 𝓤 H A W) 256 .typed t _ is₈ .0)) $
+        land ! (from ! (stop !)) (init ! 0 refl (array-lawful 𝓤 H A W Row (LL.lawful T.the-type T′.the-laws 𝓤 H A W) 256 .typed t _ is₈ .0)) $
         -- `copy_in`
         move ! (20 ∷ 23 ∷ []) $ use2 W (raw (CopyIn 𝓤 H A mem run .pre (to-in k w₇ is₇ t w₈ is₈))) (goes-in k w₇ is₇ t w₈ is₈ h) $
         calls-at ! fm (CopyIn 𝓤 H A mem run) known-in (to-in k w₇ is₇ t w₈ is₈) (and-then ! (load ! (from ! (stop !)) (look ! 9 refl)) (and-then ! (load ! (from ! (stop !)) (look ! 3 refl)) (and-then ! (load ! (from ! (stop !)) (look ! 1 refl)) (no-more !)))) (λ w₆.
         use1 W (later (some (λ (u : List Entry). ((‵ (flft κ₂ q₂) ⊛ ‵ ftrue) ⊛ ‵ (Table .own u (w₆ ∷ []))) ⊛ raw (ensured 𝓤 H A copy-in.ended (copy-in.clauses 𝓤 H A mem run) (κ₂, tt) (x₄, (k, (t, tt))) tt u)))) (id⊢ 𝓤 _) $ await ! tt $ pick ! (λ u.
         split ! $ move ! (1 ∷ []) $ use1 W (raw (fact 𝓤 (u ≡ over k (x₄ .now) t))) (in-of k w₇ is₇ t w₈ is₈ u) $ heard ! (u ≡ over k (x₄ .now) t) (λ e. split ! $ move ! (1 ∷ []) $ facts ! Table (Is Table) (shows 𝓤 H A Table) u (w₆ ∷ []) (λ is₆.
-        land ! (from ! (stop !)) (init ! 5 refl (array-lawful 𝓤 H A W R (LL.lawful T.the-type T′.the-laws 𝓤 H A W) 256 .typed u _ is₆ .0)) $
+        land ! (from ! (stop !)) (init ! 5 refl (array-lawful 𝓤 H A W Row (LL.lawful T.the-type T′.the-laws 𝓤 H A W) 256 .typed u _ is₆ .0)) $
         -- [κ₂'s token and true; _8; …; the other tokens; O₁; O₂; All]: `check_table`
         split ! $ move ! (20 ∷ 21 ∷ 22 ∷ 23 ∷ []) $ group ! 4 $ use1 W (raw (Check 𝓤 H A mem run .pre (to-check u w₆ is₆))) (goes-check u w₆ is₆) $
         calls-at ! fm (Check 𝓤 H A mem run) known-check (to-check u w₆ is₆) (and-then ! (load ! (from ! (stop !)) (look ! 17 refl)) (and-then ! (load ! (from ! (stop !)) (look ! 15 refl)) (and-then ! (load ! (from ! (stop !)) (look ! 13 refl)) (and-then ! (load ! (from ! (stop !)) (look ! 7 refl)) (and-then ! (load ! (from ! (stop !)) (look ! 9 refl)) (no-more !)))))) (λ w.
@@ -248,14 +234,14 @@ module _ {M : Type 1} (𝓤 : URA M) (H : Heap 𝓤) (A : Atoms 𝓤) (W : Given
   check-plan-walks : (C : Calls 𝓤 H) (Λ : Loops 𝓤 H) → FmC 𝓤 H (W .laws) C → Triple 𝓤 (C fit-def.name) (Fit 𝓤 H A mem run) → Triple 𝓤 (C blank-def.name) (Blank 𝓤 H A mem run) → Triple 𝓤 (C copy-in-def.name) (CopyIn 𝓤 H A mem run) → Triple 𝓤 (C check-def.name) (Check 𝓤 H A mem run)
       → Walks 𝓤 H A f.ended stayed (WpFn 𝓤 H C Λ code.function) (f.clauses 𝓤 H A mem run)
   check-plan-walks C Λ fm k₁ k₂ k₃ k₄ = walked 𝓤 H A f.ended stayed (f.clauses 𝓤 H A mem run) (WpFn 𝓤 H C Λ code.function)
-      (λ κs. (slice-vals, (slice-vals, (uint-vals w32, (slice-vals, tt))))) (λ κs. (shr-slice-tells (named 0) (κs .0) u16, (shr-slice-tells (named 1) (κs .1 .0) Arrow, (uint-tells w32, (shr-slice-tells (named 2) (κs .1 .1 .0) R, tt)))))
+      (λ κs. (slice-vals, (slice-vals, (uint-vals w32, (slice-vals, tt))))) (λ κs. (shr-slice-tells (named 0) (κs .0) u16, (shr-slice-tells (named 1) (κs .1 .0) Arrow, (uint-tells w32, (shr-slice-tells (named 2) (κs .1 .1 .0) Row, tt)))))
       (λ κs qs bounds a g are. via 𝓤 _ (fst∗ 𝓤 _ (emp 𝓤)) (walk 𝓤 H A W mem run (κs .0) (κs .1 .0) (κs .1 .1 .0) (qs .0) (qs .1 .0) (qs .1 .1 .0) (a .0) (a .1 .0) (a .1 .1 .0) (a .1 .1 .1 .0) (are .1 .1 .0 .1) (are .0 .0 .1 .0) (are .1 .0 .0 .1 .0) (are .1 .1 .1 .0 .0 .1 .0) C Λ fm k₁ k₂ k₃ k₄))
 
 check-plan-meets : {M : Type 1} (𝓤 : URA M) (H : Heap 𝓤) (A : Atoms 𝓤) (W : Given 𝓤 H A) (mem : Memory → SProp 𝓤) (run : Routine → Fun 𝓤) (𝓣 : Tables 𝓤 H)
     → Triple 𝓤 (𝓣 .C fit-def.name) (Fit 𝓤 H A mem run) → Triple 𝓤 (𝓣 .C blank-def.name) (Blank 𝓤 H A mem run) → Triple 𝓤 (𝓣 .C copy-in-def.name) (CopyIn 𝓤 H A mem run) → Triple 𝓤 (𝓣 .C check-def.name) (Check 𝓤 H A mem run)
     → Meets 𝓤 H A f.signature (WpFn 𝓤 H (𝓣 .C) (𝓣 .Λ) code.function) (f.spec 𝓤 H A mem run)
 check-plan-meets 𝓤 H A W mem run 𝓣 k₁ k₂ k₃ k₄ =
-    walk-meets 𝓤 H A f.ended stayed W (goes-none-slice 𝓤 H A W 3 (0 ∷ []) tt (plain (λ _. u16)) yes, (goes-none-slice 𝓤 H A W 3 (1 ∷ []) tt (plain (λ _. Arrow)) yes, (goes-none 𝓤 H A W 3 (λ _. u32) yes (λ κs x f. refl), (goes-none-slice 𝓤 H A W 3 (2 ∷ []) tt (plain (λ _. R)) yes, tt))))
+    walk-meets 𝓤 H A f.ended stayed W (goes-none-slice 𝓤 H A W 3 (0 ∷ []) tt (plain (λ _. u16)) yes, (goes-none-slice 𝓤 H A W 3 (1 ∷ []) tt (plain (λ _. Arrow)) yes, (goes-none 𝓤 H A W 3 (λ _. u32) yes (λ κs x f. refl), (goes-none-slice 𝓤 H A W 3 (2 ∷ []) tt (plain (λ _. Row)) yes, tt))))
     (f.clauses 𝓤 H A mem run) (WpFn 𝓤 H (𝓣 .C) (𝓣 .Λ) code.function) (WpFn-mono 𝓤 H (W .laws) 𝓣 code.function) (check-plan-walks 𝓤 H A W mem run (𝓣 .C) (𝓣 .Λ) (fmOf 𝓤 H (W .laws) 𝓣) k₁ k₂ k₃ k₄)
 
 pub check-plan-spec : {M : Type 1} → stated.statement M

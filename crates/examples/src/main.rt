@@ -1,4 +1,4 @@
-// The examples of document 01, run. What each must say stands in the file `stdout`, from the document.
+// Runs the examples of document 01. What each must say stands in the file `stdout`, from the document.
 use graph::longest_path;
 use graph::total_work;
 use libc::STDOUT_FILENO;
@@ -208,8 +208,7 @@ fn refusals() {
     print(b"\n");
 }
 
-pub fn print_examples() {
-    print(b"examples\n");
+fn main() {
     graph_g();
     small_graphs();
     limits();

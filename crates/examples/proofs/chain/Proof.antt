@@ -1,10 +1,10 @@
--- `chain` meets its contract. Assumes nothing.
+-- `chain`: 255 arrows, all within the row. Assumes nothing.
 use mathlib.Core.Path.{_≡_}
 use Prim.Native.Nat.{_-_, _≤_}
 use lib.ListN.{length}
 use borrow.Author.Needs.{needs}
-use Rattle.vectors.proofs.examples.chain.Statement.{statement}
-use Rattle.vectors.proofs.examples.chain.Tie as tie
+use Rattle.examples.proofs.chain.Statement.{statement}
+use Rattle.examples.proofs.chain.Tie as tie
 
 abbrev Inv-loop : tie.InvT-loop
 Inv-loop arrows₀ j₀ arrows j = (length arrows ≡ 255) × (j ≤ 255)
