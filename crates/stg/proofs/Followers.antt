@@ -1,20 +1,21 @@
 -- The lines after the last task's: a line of spaces and tabs is one without fields, and a comment begins with #. Assumes nothing.
-use mathlib.Core.Path.{_≡_, refl, sym, _∙_}
+use mathlib.Core.Path.{_≡_, refl, sym, ap}
 use mathlib.Core.List.{List, [], _∷_, map}
 use mathlib.Core.Bool.{Bool, true, false, not, or-true}
 use Prim.Native.Nat.{ℕ, suc, _+_, _≤_, _<_}
 use native.Mathlib.Omega.{arith}
-use borrow.Author.Tests.{eq-eqb, ne-eqb}
+use borrow.Author.Tests.{ne-eqb}
 use lib.Dec.{eqb}
 use lib.ListN.{length, getD, drop, drop-of-length-le}
 use lib.Seq.{drop-cons, drop-drop}
 use Rattle.terms.specs.Texts.{allPass, begins, onto, isBlank, isField, value, lines, fields, proper, numbers, endsHere}
 use Rattle.terms.specs.Readings.{refuse, graph, mayFollow, trailer}
 use Rattle.text.specs.Steps.{lineSize}
-use Rattle.text.specs.Standing.{line}
+use Rattle.text.specs.Standing.{line, Ended}
 use Rattle.text.proofs.Places.{size-within}
 use Rattle.text.proofs.Lines.{later-size, size-on}
-use Rattle.stg.specs.Told.{LineIs, Follower}
+use Rattle.stg.specs.Told.{Follower}
+use Rattle.stg.proofs.Seen.{SomeNumber}
 use Rattle.stg.proofs.OneLine.{lines-at}
 
 abbrev none : List (List ℕ) → Bool
@@ -37,14 +38,14 @@ unfolding allPass fields
 blank-line [] = refl
 blank-line (b ∷ l) = blank-step b l (isBlank b) (begins (λ x. not (isBlank x)) l) refl refl (blank-line l)
 
-none-bad : (fs : List (List ℕ)) → allPass isField fs ≡ false → none fs ≡ false
-unfolding allPass
-none-bad [] e = e
-none-bad (w ∷ ws) e = refl
+no-fields : (ws : List (List ℕ)) → map value ws ≡ [] → none ws ≡ true
+no-fields [] e = refl
+no-fields (w ∷ ws) e = let z : _≡_ {A = ℕ} (suc (length (map value ws))) 0 = ap length e in absurd (omega arith)
 
-none-many : (fs : List (List ℕ)) → none fs ≡ eqb (length (map value fs)) 0
-none-many [] = refl
-none-many (w ∷ ws) = sym (ne-eqb (suc (length (map value ws))) 0 (λ e. omega arith))
+some-fields : (ws : List (List ℕ)) → (allPass isField ws ≡ true → 1 ≤ length (map value ws)) → none ws ≡ false
+unfolding allPass
+some-fields [] h = absurd (omega (arith, h refl))
+some-fields (w ∷ ws) h = refl
 
 module _ (text : List ℕ) (at : ℕ) (h : at < length text) where
   sharp : getD text at 0 ≡ 35 → begins (λ b. eqb b 35) (line (drop at text)) ≡ true
@@ -70,22 +71,14 @@ module _ (text : List ℕ) (at : ℕ) (h : at < length text) where
       }
 
   module _ (s : getD text at 0 ≡ 35 → ⊥) where
-    pub follower-bad : proper (line (drop at text)) ≡ false → mayFollow (line (drop at text)) ≡ false
-    unfolding mayFollow proper
-    follower-bad e = rw (blank-line (line (drop at text)), none-bad (fields (line (drop at text))) e, not-sharp s)
+    pub follower-some : SomeNumber text at → mayFollow (line (drop at text)) ≡ false
+    unfolding mayFollow proper numbers
+    follower-some k = rw (blank-line (line (drop at text)), some-fields (fields (line (drop at text))) k, not-sharp s)
 
-    module _ (i : ℕ) (head : List ℕ) (row : List (List ℕ)) (a k : ℕ) (below : Bool) (b e : ℕ) (head′ : List ℕ) (row′ : List (List ℕ)) (p : LineIs text at i head row a k below b e head′ row′) where
-      blank-if : allPass isBlank (line (drop at text)) ≡ eqb k 0
-      unfolding numbers
-      blank-if = blank-line (line (drop at text)) ∙ none-many (fields (line (drop at text))) ∙ rw (p .many)
-
-      pub follower-some : (k ≡ 0 → ⊥) → mayFollow (line (drop at text)) ≡ false
-      unfolding mayFollow
-      follower-some z = rw (blank-if, ne-eqb k 0 z, not-sharp s)
-
-      pub follower-blank : k ≡ 0 → Follower text at e
-      unfolding mayFollow
-      follower-blank z = record { may = rw (blank-if, eq-eqb k 0 z); next = p .gives .next; inside = p .gives .inside; on = p .gives .on h }
+    pub follower-blank : (e : ℕ) → Ended text at e → Follower text at e
+    unfolding mayFollow numbers
+    follower-blank e q =
+        record { may = rw (blank-line (line (drop at text)), no-fields (fields (line (drop at text))) (q .none)); next = q .next; inside = q .inside; on = q .on h }
 
   pub trailer-more : (e : ℕ) → Follower text at e → trailer (lines (drop at text)) ≡ trailer (lines (drop e text))
   unfolding trailer

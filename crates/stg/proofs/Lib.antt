@@ -1,4 +1,4 @@
-pub mod LineHeads
+pub mod Seen
 pub mod OneArrow
 pub mod Along
 pub mod OneLine

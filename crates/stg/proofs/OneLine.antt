@@ -2,7 +2,7 @@
 use mathlib.Core.Path.{_≡_, refl, sym, _∙_, ap}
 use mathlib.Core.List.{List, [], _∷_}
 use mathlib.Core.Bool.{Bool, true, false, _&&_, and-false}
-use Prim.Native.Nat.{ℕ, suc, _-_, _≤_, _<_}
+use Prim.Native.Nat.{ℕ, suc, _≤_, _<_}
 use native.Mathlib.Omega.{arith}
 use borrow.Author.Tests.{eq-eqb, ne-eqb, le-leb, lt-leb, le-ltb}
 use lib.Dec.{eqb, leb, ltb}
@@ -10,13 +10,13 @@ use lib.ListN.{length, getD, drop}
 use lib.Seq.{drop-cons}
 use Rattle.terms.specs.Texts.{allPass, lines, proper, numbers}
 use Rattle.terms.specs.Readings.{Reading, refuse, lineAtHand, linesAfter, isSize, isFirst, isShape, isTask, isEntryDummy, isExitDummy, predecessorsIn, trailer, exitLine, taskLines, entryLine, readLines}
-use Rattle.text.specs.Standing.{line, later}
+use Rattle.text.specs.Standing.{line, later, Ended, Passed}
 use Rattle.text.proofs.Lines.{lines-cons}
-use Rattle.stg.specs.Told.{LineIs, LineOf, TaskIs, TaskOf, FirstIs, Dummy, dummy, DummyOf}
-use Rattle.stg.specs.declared.line.Line.{Line}
+use Rattle.stg.specs.Told.{PredecessorsAre, PredecessorsOf, TaskIs, TaskOf, FirstIs, Dummy, dummy, DummyOf}
+use Rattle.stg.specs.declared.predecessors.Predecessors.{Predecessors}
 use Rattle.stg.specs.declared.others.Passage.{Passage}
 use Rattle.stg.specs.declared.tasks.Task.{Task}
-use Rattle.stg.proofs.LineHeads.{noughts, few-shape, shape-is, time-is, not-size, size-is}
+use Rattle.stg.proofs.Seen.{NoNumber, SomeNumber}
 
 -- ---- the line at hand
 
@@ -33,81 +33,141 @@ rest-line (b ∷ s) = ap linesAfter (lines-cons b s)
 pub lines-at : (s : List ℕ) (i : ℕ) → i < length s → lines (drop i s) ≡ line (drop i s) ∷ later (drop i s)
 lines-at s i h = rw (drop-cons s i 0 h) (lines-cons (getD s i 0) (drop (suc i) s))
 
+-- ---- a line that fails a test of its numbers
+
+fails : (s t : Bool) → (s ≡ true → t ≡ false) → (s && t) ≡ false
+fails true t h = h refl
+fails false t h = refl
+
 -- ---- the first line
 
 module _ (text : List ℕ) where
-  not-first : isFirst (line text) ≡ false → readLines (lines text) ≡ refuse 21
-  unfolding readLines
-  not-first e = rw (top-line text, e)
+  not-first : (proper (line text) ≡ true → isSize (numbers (line text)) ≡ false) → readLines (lines text) ≡ refuse 21
+  unfolding readLines isFirst
+  not-first h = rw (top-line text, fails (proper (line text)) (isSize (numbers (line text))) h)
 
-  pub first-bad : proper (line text) ≡ false → readLines (lines text) ≡ refuse 21
-  unfolding isFirst
-  first-bad e = not-first (rw e)
+  pub first-none : NoNumber text 0 → readLines (lines text) ≡ refuse 21
+  unfolding isSize
+  first-none h = not-first (λ s. rw (h s))
 
-  module _ (row : List (List ℕ)) (k : ℕ) (below : Bool) (b e : ℕ) (head : List ℕ) (row′ : List (List ℕ)) (h : LineIs text 0 0 noughts row 0 k below b e head row′) where
-    pub first-many : (k ≡ 1 → ⊥) → readLines (lines text) ≡ refuse 21
-    unfolding isFirst
-    first-many z = not-first (rw (not-size (numbers (line text)) (λ q. z (sym (h .many) ∙ q)), and-false))
+  module _ (n e : ℕ) (p : Passed text 0 n e) where
+    two-sizes : (ns : List ℕ) → 1 ≤ length ns → isSize (n ∷ ns) ≡ false
+    unfolding isSize
+    two-sizes [] h = absurd (omega arith)
+    two-sizes (m ∷ ns) h = refl
 
-    module _ (q : k ≡ 1) where
-      size : (isSize (numbers (line text)) ≡ (leb 1 (getD head 0 0) && leb (getD head 0 0) 256)) × (getD (numbers (line text)) 0 0 ≡ getD head 0 0)
-      size = size-is (numbers (line text)) head (h .heads) (h .many ∙ q)
+    pub first-more : SomeNumber text e → readLines (lines text) ≡ refuse 21
+    first-more h =
+        not-first
+        (λ s. let r = sym (p .sound) ∙ s in ap isSize (p .some r) ∙ two-sizes (numbers (line (drop e text))) (h r))
 
-      pub first-low : getD head 0 0 < 1 → readLines (lines text) ≡ refuse 21
-      unfolding isFirst
-      first-low l = not-first (rw (size .0, lt-leb 1 (getD head 0 0) l, and-false))
+    module _ (f : ℕ) (q : Ended text e f) where
+      one : numbers (line text) ≡ n ∷ []
+      one = p .some (q .sound) ∙ ap (λ (ns : List ℕ). n ∷ ns) (q .none)
 
-      pub first-high : 256 < getD head 0 0 → readLines (lines text) ≡ refuse 21
-      unfolding isFirst
-      first-high l = not-first (rw (size .0, lt-leb (getD head 0 0) 256 l, and-false) (and-false (proper (line text))))
+      size : isSize (numbers (line text)) ≡ (leb 1 n && leb n 256)
+      unfolding isSize
+      size = rw one
 
-      pub first-is : 1 ≤ getD head 0 0 → getD head 0 0 ≤ 256 → FirstIs text (getD head 0 0) e
+      pub first-low : n < 1 → readLines (lines text) ≡ refuse 21
+      first-low l = not-first (λ _. rw (size, lt-leb 1 n l))
+
+      pub first-high : 256 < n → readLines (lines text) ≡ refuse 21
+      first-high l = not-first (λ _. rw (size, lt-leb n 256 l, and-false))
+
+      pub first-is : 1 ≤ n → n ≤ 256 → FirstIs text n f
       unfolding readLines isFirst
       first-is l m =
           record {
-            does = rw (top-line text, rest-line text, h .sound, size .0, le-leb 1 (getD head 0 0) l, le-leb (getD head 0 0) 256 m, size .1, h .gives .next);
-            inside = h .gives .inside;
+            does = rw (top-line text, rest-line text, p .sound, q .sound, size, le-leb 1 n l, le-leb n 256 m, one, p .next, q .next);
+            inside = q .inside;
             size = record { low = l; high = m };
           }
 
 -- ---- a task's line
 
-pub task-bad : (i : ℕ) (l : List ℕ) → proper l ≡ false → isTask i l ≡ false
-unfolding isTask
-task-bad i l e = rw e
+-- the first three numbers of the line at hand are x, y and z, and are passed at e
+pub record Headed (text : List ℕ) (at x y z e : ℕ) : Type 0 where
+  pub sound : proper (line (drop at text)) ≡ proper (line (drop e text))
+  pub some : proper (line (drop e text)) ≡ true → numbers (line (drop at text)) ≡ x ∷ y ∷ z ∷ numbers (line (drop e text))
+  pub next : later (drop at text) ≡ later (drop e text)
+  pub inside : e ≤ length text
+  pub on : at < e
 
-module _ (text : List ℕ) (at i : ℕ) (row : List (List ℕ)) (a k : ℕ) (below : Bool) (b e : ℕ) (head : List ℕ) (row′ : List (List ℕ)) (h : LineIs text at i noughts row a k below b e head row′) where
-  pub task-few : k < 3 → isTask i (line (drop at text)) ≡ false
+pub headed : (text : List ℕ) (at x e y f z g : ℕ) → Passed text at x e → Passed text e y f → Passed text f z g → Headed text at x y z g
+headed text at x e y f z g p q r =
+    record {
+      sound = p .sound ∙ q .sound ∙ r .sound;
+      some =
+          λ s. p .some (q .sound ∙ r .sound ∙ s) ∙ ap (λ (ns : List ℕ). x ∷ ns) (q .some (r .sound ∙ s)) ∙ ap (λ (ns : List ℕ). x ∷ y ∷ ns) (r .some s);
+      next = p .next ∙ q .next ∙ r .next;
+      inside = r .inside;
+      on = omega (arith, p .on, q .on, r .on);
+    }
+
+module _ (text : List ℕ) (at i : ℕ) where
+  not-task : (proper (line (drop at text)) ≡ true → isShape i (numbers (line (drop at text))) ≡ false) → isTask i (line (drop at text)) ≡ false
   unfolding isTask
-  task-few l = rw (few-shape i (numbers (line (drop at text))) (omega (arith, h .many)), and-false)
+  not-task h = fails (proper (line (drop at text))) (isShape i (numbers (line (drop at text)))) h
 
-  module _ (l : 3 ≤ k) where
-    enough : 3 ≤ length (numbers (line (drop at text)))
-    enough = omega (arith, h .many)
+  -- fewer than three numbers
+  pub task-none : NoNumber text at → isTask i (line (drop at text)) ≡ false
+  unfolding isShape
+  task-none h = not-task (λ s. rw (h s))
 
-    shape : isShape i (numbers (line (drop at text))) ≡ (eqb (getD head 0 0) i && eqb (k - 3) (getD head 2 0))
-    shape = shape-is i (numbers (line (drop at text))) head (h .heads) enough ∙ rw (h .many)
+  pub task-one : (x e : ℕ) → Passed text at x e → NoNumber text e → isTask i (line (drop at text)) ≡ false
+  unfolding isShape
+  task-one x e p h = not-task (λ s. let r = sym (p .sound) ∙ s in rw (p .some r, h r))
 
-    pub task-other : (getD head 0 0 ≡ i → ⊥) → isTask i (line (drop at text)) ≡ false
+  pub task-two : (x e y f : ℕ) → Passed text at x e → Passed text e y f → NoNumber text f → isTask i (line (drop at text)) ≡ false
+  unfolding isShape
+  task-two x e y f p q h = not-task (λ s. let r = sym (q .sound) ∙ sym (p .sound) ∙ s in rw (p .some (q .sound ∙ r), q .some r, h r))
+
+  -- another index
+  other-shape : (x : ℕ) (ns : List ℕ) → (x ≡ i → ⊥) → isShape i (x ∷ ns) ≡ false
+  unfolding isShape
+  other-shape x [] n = refl
+  other-shape x (y ∷ []) n = refl
+  other-shape x (y ∷ z ∷ ns) n = rw (ne-eqb x i n)
+
+  pub task-other : (x e : ℕ) → Passed text at x e → (x ≡ i → ⊥) → isTask i (line (drop at text)) ≡ false
+  task-other x e p n = not-task (λ s. ap (isShape i) (p .some (sym (p .sound) ∙ s)) ∙ other-shape x (numbers (line (drop e text))) n)
+
+  module _ (x y z e : ℕ) (h : Headed text at x y z e) where
+    pub task-bad : proper (line (drop e text)) ≡ false → isTask i (line (drop at text)) ≡ false
     unfolding isTask
-    task-other z = rw (shape, ne-eqb (getD head 0 0) i z, and-false)
+    task-bad s = rw (h .sound ∙ s)
 
-    pub task-miss : (getD head 2 0 ≡ k - 3 → ⊥) → isTask i (line (drop at text)) ≡ false
-    unfolding isTask
-    task-miss z = rw (shape, ne-eqb (k - 3) (getD head 2 0) (λ q. z (sym q)), and-false) (and-false (proper (line (drop at text))))
+    module _ (row : List (List ℕ)) (a k : ℕ) (below : Bool) (b f : ℕ) (row′ : List (List ℕ)) (w : PredecessorsAre text e i row a k below b f row′) where
+      shape : isShape i (numbers (line (drop at text))) ≡ (eqb x i && eqb k z)
+      unfolding isShape
+      shape = rw (h .some (w .sound), w .many)
 
-    pub task-is : getD head 0 0 ≡ i → getD head 2 0 ≡ k - 3 → TaskIs text at i row a (getD head 1 0) below b e row′
-    unfolding isTask
-    task-is p q =
-        record {
-          shaped = rw (h .sound, shape, eq-eqb (getD head 0 0) i p, eq-eqb (k - 3) (getD head 2 0) (sym q));
-          time = time-is (numbers (line (drop at text))) head (h .heads) enough;
-          gives = h .gives;
-        }
+      pub task-miss : (z ≡ k → ⊥) → isTask i (line (drop at text)) ≡ false
+      task-miss n = not-task (λ _. rw (shape, ne-eqb k z (λ m. n (sym m)), and-false))
 
--- what a reply that is known tells: of a line, of a task's line
-pub lined : (text : List ℕ) (at i : ℕ) (head : List ℕ) (row : List (List ℕ)) (a : ℕ) (head′ : List ℕ) (row′ : List (List ℕ)) (r x : Line) → r ≡ x → LineOf text at i head row a head′ row′ r → LineOf text at i head row a head′ row′ x
-lined text at i head row a head′ row′ r x e h = rw e at h
+      pub task-is : x ≡ i → z ≡ k → TaskIs text at i row a y below b f row′
+      unfolding isTask
+      task-is m n =
+          record {
+            shaped = rw (h .sound ∙ w .sound, shape, eq-eqb x i m, eq-eqb k z (sym n));
+            time = rw (h .some (w .sound));
+            gives =
+                rw (h .some (w .sound))
+                (record {
+                  each = w .gives .each;
+                  adds = w .gives .adds;
+                  few = w .gives .few;
+                  next = h .next ∙ w .gives .next;
+                  inside = w .gives .inside;
+                  past = omega (arith, h .on, w .gives .past);
+                  on = λ _. omega (arith, h .on, w .gives .past);
+                });
+          }
+
+-- what a reply that is known tells: of the predecessors, of a task's line
+pub preceded : (text : List ℕ) (at i : ℕ) (row : List (List ℕ)) (a : ℕ) (row′ : List (List ℕ)) (r x : Predecessors) → r ≡ x → PredecessorsOf text at i row a row′ r → PredecessorsOf text at i row a row′ x
+preceded text at i row a row′ r x e h = rw e at h
 
 pub tasked : (text : List ℕ) (at i : ℕ) (row : List (List ℕ)) (a : ℕ) (row′ : List (List ℕ)) (r x : Task) → r ≡ x → TaskOf text at i row a row′ r → TaskOf text at i row a row′ x
 tasked text at i row a row′ r x e h = rw e at h

@@ -2,7 +2,7 @@
 use mathlib.Core.Path.{_≡_}
 use mathlib.Core.List.{List, [], _∷_, map}
 use mathlib.Core.Bool.{Bool, true, false, cond}
-use Prim.Native.Nat.{ℕ, suc, _+_, _-_, _≤_, _<_}
+use Prim.Native.Nat.{ℕ, suc, _+_, _≤_, _<_}
 use lib.Dec.{leb, ltb}
 use lib.ListN.{length, getD, drop}
 use lib.Seq.{sets}
@@ -14,8 +14,8 @@ use Rattle.terms.specs.declared.Check.the-variants as check
 use Rattle.terms.specs.declared.Counts.{Counts}
 use Rattle.terms.specs.declared.Counts.the-variants as counts
 use Rattle.text.specs.Standing.{line, later}
-use Rattle.stg.specs.declared.line.Line.{Line}
-use Rattle.stg.specs.declared.line.Line.the-variants as whole
+use Rattle.stg.specs.declared.predecessors.Predecessors.{Predecessors}
+use Rattle.stg.specs.declared.predecessors.Predecessors.the-variants as predecessors
 use Rattle.stg.specs.declared.tasks.Task.{Task}
 use Rattle.stg.specs.declared.tasks.Task.the-variants as task
 use Rattle.stg.specs.declared.tasks.Step.{Step}
@@ -37,21 +37,17 @@ hold arrow = clipped (getD arrow 0 0) ∷ getD arrow 1 0 ∷ []
 abbrev pub held : ℕ → List ℕ → List (List ℕ)
 held i ps = map hold (arrowsInto i ps)
 
--- the predecessors among the numbers that stand on a line behind k others
-abbrev pub predecessorsAfter : ℕ → List ℕ → List ℕ
-predecessorsAfter k ns = drop (3 - k) ns
-
 -- the arrows of some predecessors of task i, put behind the first a of a row, which makes b
 pub record Added (i : ℕ) (ps : List ℕ) (a : ℕ) (row : List (List ℕ)) (b : ℕ) (row′ : List (List ℕ)) : Type 0 where
   pub counts : b ≡ a + length (arrowsInto i ps)
   pub holds : row′ ≡ sets row a (held i ps)
 
--- what a line gives as the line of task i
-pub record Gives (text : List ℕ) (at i : ℕ) (row : List (List ℕ)) (a : ℕ) (below : Bool) (b e : ℕ) (row′ : List (List ℕ)) : Type 0 where
-  -- whether its predecessors, the numbers after the third, are all below i
-  pub each : allPass (λ p. ltb p i) (predecessorsIn (line (drop at text))) ≡ below
+-- what the line at `at` gives, with these predecessors of task i on it
+pub record Gives (text : List ℕ) (at i : ℕ) (ps : List ℕ) (row : List (List ℕ)) (a : ℕ) (below : Bool) (b e : ℕ) (row′ : List (List ℕ)) : Type 0 where
+  -- whether they are all below i
+  pub each : allPass (λ p. ltb p i) ps ≡ below
   -- their arrows went into the row
-  pub adds : Added i (predecessorsIn (line (drop at text))) a row b row′
+  pub adds : Added i ps a row b row′
   -- each arrow has cost a byte
   pub few : b ≤ e
   -- the next line begins at e
@@ -61,19 +57,17 @@ pub record Gives (text : List ℕ) (at i : ℕ) (row : List (List ℕ)) (a : ℕ
   pub past : at ≤ e
   pub on : at < length text → at < e
 
--- one line, whatever line it is
-pub record LineIs (text : List ℕ) (at i : ℕ) (head : List ℕ) (row : List (List ℕ)) (a k : ℕ) (below : Bool) (b e : ℕ) (head′ : List ℕ) (row′ : List (List ℕ)) : Type 0 where
+-- the rest of a line, each of whose numbers is a predecessor
+pub record PredecessorsAre (text : List ℕ) (at i : ℕ) (row : List (List ℕ)) (a k : ℕ) (below : Bool) (b e : ℕ) (row′ : List (List ℕ)) : Type 0 where
   -- every field is a number
   pub sound : proper (line (drop at text)) ≡ true
   -- there are k of them
   pub many : length (numbers (line (drop at text))) ≡ k
-  -- as many of them as it has room for stand in head
-  pub heads : head′ ≡ sets head 0 (numbers (line (drop at text)))
-  pub gives : Gives text at i row a below b e row′
+  pub gives : Gives text at i (numbers (line (drop at text))) row a below b e row′
 
-abbrev pub LineOf : List ℕ → ℕ → ℕ → List ℕ → List (List ℕ) → ℕ → List ℕ → List (List ℕ) → Line → Type 0
-LineOf text at i head row a head′ row′ whole.Misshapen = proper (line (drop at text)) ≡ false
-LineOf text at i head row a head′ row′ (whole.Is k below b e) = LineIs text at i head row a k below b e head′ row′
+abbrev pub PredecessorsOf : List ℕ → ℕ → ℕ → List (List ℕ) → ℕ → List (List ℕ) → Predecessors → Type 0
+PredecessorsOf text at i row a row′ predecessors.Misshapen = proper (line (drop at text)) ≡ false
+PredecessorsOf text at i row a row′ (predecessors.Are k below b e) = PredecessorsAre text at i row a k below b e row′
 
 -- ---- the tasks' lines
 
@@ -83,7 +77,7 @@ pub record TaskIs (text : List ℕ) (at i : ℕ) (row : List (List ℕ)) (a t : 
   pub shaped : isTask i (line (drop at text)) ≡ true
   -- its time is t
   pub time : timeIn (line (drop at text)) ≡ t
-  pub gives : Gives text at i row a below b e row′
+  pub gives : Gives text at i (predecessorsIn (line (drop at text))) row a below b e row′
 
 abbrev pub TaskOf : List ℕ → ℕ → ℕ → List (List ℕ) → ℕ → List (List ℕ) → Task → Type 0
 TaskOf text at i row a row′ task.Misshapen = isTask i (line (drop at text)) ≡ false

@@ -1,6 +1,6 @@
 // The reader of STG texts: one pass over the text, line by line, field by field.
-mod line;
 mod others;
+mod predecessors;
 mod rows;
 mod tasks;
 

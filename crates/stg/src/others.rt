@@ -1,12 +1,12 @@
 // The lines that give no subtask: the first, the two dummies', and those that may follow the last task's.
-use super::line::Line;
-use super::line::take_line;
 use super::tasks::Step;
 use super::tasks::Task;
 use super::tasks::task_line;
 use terms::Check;
 use terms::Refusal;
+use text::Next;
 use text::line_after;
+use text::next_number;
 ghost use mathlib.Core.Path.{_≡_};
 ghost use mathlib.Core.List.{[]};
 ghost use mathlib.Core.Bool.{cond};
@@ -28,19 +28,16 @@ pub enum Passage {
     Passed(usize),
 }
 
-// The first line, which is nothing but the number of subtasks. Nobody reads the spare row.
+// The first line, which is nothing but the number of subtasks.
 fn first_line(text: &[u8]) -> First
     ensures { λ r. ⌜ FirstOf (now (text .entry)) r ⌝ }
 {
-    let mut head = [0usize; 3];
-    let mut spare = [[0u16; 2]; 1];
-    let Line::Is(k, _, _, e) = take_line(text, 0, 0, &mut head, &mut spare, 0) else {
+    let Next::Field(n, past_n) = next_number(text, 0) else {
         return First::Misshapen;
     };
-    if k != 1 {
+    let Next::LineEnd(e) = next_number(text, past_n) else {
         return First::Misshapen;
-    }
-    let n = head[0];
+    };
     if n < 1 {
         return First::Misshapen;
     }
@@ -76,14 +73,9 @@ fn following_line(text: &[u8], at: usize) -> Passage
     if text[at] == 35 {
         return Passage::Passed(line_after(text, at));
     }
-    let mut head = [0usize; 3];
-    let mut spare = [[0u16; 2]; 1];
-    let Line::Is(k, _, _, e) = take_line(text, at, 0, &mut head, &mut spare, 0) else {
+    let Next::LineEnd(e) = next_number(text, at) else {
         return Passage::Refused(Refusal { number: 22 });
     };
-    if k != 0 {
-        return Passage::Refused(Refusal { number: 22 });
-    }
     Passage::Passed(e)
 }
 

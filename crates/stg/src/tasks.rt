@@ -1,8 +1,10 @@
 // The lines of the tasks. Those of the subtasks put their times and arrows into the two rows.
-use super::line::Line;
-use super::line::narrow;
-use super::line::take_line;
+use super::predecessors::Predecessors;
+use super::predecessors::narrow;
+use super::predecessors::take_predecessors;
 use terms::Refusal;
+use text::Next;
+use text::next_number;
 ghost use Prim.Native.Nat.{_≤_, _<_};
 ghost use lib.ListN.{length};
 ghost use Rattle.stg.specs.Told.{TaskOf, SubtaskOf, SubtasksOf};
@@ -24,20 +26,25 @@ pub fn task_line(text: &[u8], at: usize, i: usize, arrows: &mut [[u16; 2]], a: u
     requires { ⌜ (at ≤ length (now text)) × (i < 65536) × (a ≤ at) ⌝ }
     ensures { λ r. ⌜ TaskOf (now (text .entry)) at i (now (arrows .entry)) a (now (arrows .exit)) r ⌝ }
 {
-    let mut head = [0usize; 3];
-    let Line::Is(k, below, b, e) = take_line(text, at, i, &mut head, arrows, a) else {
+    let Next::Field(index, past_index) = next_number(text, at) else {
         return Task::Misshapen;
     };
-    if k < 3 {
+    if index != i {
         return Task::Misshapen;
     }
-    if head[0] != i {
+    let Next::Field(t, past_time) = next_number(text, past_index) else {
+        return Task::Misshapen;
+    };
+    let Next::Field(count, past_count) = next_number(text, past_time) else {
+        return Task::Misshapen;
+    };
+    let Predecessors::Are(k, below, b, e) = take_predecessors(text, past_count, i, arrows, a) else {
+        return Task::Misshapen;
+    };
+    if count != k {
         return Task::Misshapen;
     }
-    if head[2] != k - 3 {
-        return Task::Misshapen;
-    }
-    Task::Is(head[1], below, b, e)
+    Task::Is(t, below, b, e)
 }
 
 // The line of subtask j + 1.

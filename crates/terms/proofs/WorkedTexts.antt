@@ -2,7 +2,7 @@
 use mathlib.Core.Path.{_≡_, refl}
 use mathlib.Core.List.{List, [], _∷_, _++_}
 use Prim.Native.Nat.{ℕ}
-use Rattle.terms.specs.Texts.{allPass, lines, fields, valueFrom, proper, numbers, blanks, word, nextField}
+use Rattle.terms.specs.Texts.{allPass, lines, fields, valueFrom, proper, numbers, blanks, digits, nextField}
 use Rattle.terms.specs.Readings.{Reading, refuse, graph, isSize, isFirst, isShape, isTask, isEntryDummy, isExitDummy, mayFollow, arrowsInto, withTask, trailer, exitLine, taskLines, entryLine, readLines, readText}
 
 -- a text, read with room for 256 times and 2,048 arrows
@@ -48,7 +48,7 @@ pub record WorkedTexts : Type 0 where
   pub nextPiece : nextField (32 ∷ 9 ∷ 49 ∷ 50 ∷ 32 ∷ 51 ∷ []) ≡ 49 ∷ 50 ∷ []
 
 pub worked-texts : WorkedTexts
-unfolding allPass lines fields valueFrom proper numbers blanks word isSize isFirst isShape isTask isEntryDummy isExitDummy mayFollow arrowsInto withTask trailer exitLine taskLines entryLine readLines readText
+unfolding allPass lines fields valueFrom proper numbers blanks digits isSize isFirst isShape isTask isEntryDummy isExitDummy mayFollow arrowsInto withTask trailer exitLine taskLines entryLine readLines readText
 worked-texts =
     record {
       bench = refl;

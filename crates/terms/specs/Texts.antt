@@ -77,11 +77,11 @@ unfoldable pub blanks : List ℕ → ℕ
 blanks [] = 0
 blanks (b ∷ text) = cond (isBlank b) (suc (blanks text)) 0
 
--- the bytes up to a space, a tab or the line's end
-unfoldable pub word : List ℕ → List ℕ
-word [] = []
-word (b ∷ text) = cond (isBlank b || endsHere (b ∷ text)) [] (b ∷ word text)
+-- the digits that lead
+unfoldable pub digits : List ℕ → List ℕ
+digits [] = []
+digits (b ∷ text) = cond (isDigit b) (b ∷ digits text) []
 
--- the next field of the line: leading spaces and tabs are passed over; none where the line ends first
+-- the next field of the line, which is digits: leading spaces and tabs are passed over; none where no digit stands
 abbrev pub nextField : List ℕ → List ℕ
-nextField text = word (drop (blanks text) text)
+nextField text = digits (drop (blanks text) text)

@@ -1,16 +1,16 @@
 -- The rest of a line, its fields and the lines after it, from a place of a text on. Assumes nothing.
 use Prim.Native.Nat.{ℕ, suc, _+_, _≤_, _<_}
-use mathlib.Core.Path.{_≡_, refl}
-use mathlib.Core.List.{List, [], _∷_}
-use mathlib.Core.Bool.{Bool, true, false, cond, not, _||_}
+use mathlib.Core.Path.{_≡_, refl, sym, _∙_, ap}
+use mathlib.Core.List.{List, [], _∷_, _++_}
+use mathlib.Core.Bool.{Bool, true, false, cond, not, _&&_, _||_, and-false}
 use native.Mathlib.Omega.{arith}
 use mathlib.Core.Logic.{_⊎_, inl, inr}
 use lib.ListN.{length, drop, getD}
 use lib.Seq.{drop-cons}
-use lib.Dec.{eqb}
-use borrow.Author.Tests.{eqb-true, ne-eqb}
-use Rattle.terms.specs.Texts.{allPass, isBlank, isFeed, isReturn, begins, onto, lines, fields, proper, numbers, endsHere, blanks, word}
-use Rattle.text.proofs.Digits.{both}
+use lib.Dec.{eqb, leb}
+use borrow.Author.Tests.{eqb-true, ne-eqb, not-true}
+use Rattle.terms.specs.Texts.{allPass, isBlank, isDigit, isFeed, isReturn, begins, onto, lines, fields, isField, proper, numbers, endsHere, blanks, digits}
+use Rattle.text.proofs.Digits.{both, digit-bounds}
 use Rattle.text.specs.Steps.{lineSize}
 use Rattle.text.specs.Standing.{line, later}
 
@@ -115,88 +115,141 @@ unfolding blanks
 blanks-none [] = refl
 blanks-none (b ∷ s) = no-blanks b s (isBlank b) refl (blanks-none s)
 
+-- ---- a run of digits, and the line behind it
+
+digit-plain : (b : ℕ) (s : List ℕ) → isDigit b ≡ true → (isBlank b ≡ false) × (endsHere (b ∷ s) ≡ false)
+digit-plain b s e =
+    let h = digit-bounds b e in
+    (rw (ne-eqb b 32 (λ g. omega arith), ne-eqb b 9 (λ g. omega arith)), rw (ne-eqb b 10 (λ g. omega arith), ne-eqb b 13 (λ g. omega arith)))
+
+digits-on : (b : ℕ) (s : List ℕ) → isDigit b ≡ true → digits (b ∷ s) ≡ b ∷ digits s
+unfolding digits
+digits-on b s e = rw e
+
+digits-off : (b : ℕ) (s : List ℕ) → isDigit b ≡ false → digits (b ∷ s) ≡ []
+unfolding digits
+digits-off b s e = rw e
+
+-- what is known of the digits that lead a text: they are a run of digits, its line begins with them, and no digit stands behind them
+pub record Run (s d rest : List ℕ) : Type 0 where
+  pub all : allPass isDigit d ≡ true
+  pub split : line s ≡ d ++ line rest
+  pub stop : begins isDigit (line rest) ≡ false
+  pub next : later s ≡ later rest
+
+no-digit : (b : ℕ) (s : List ℕ) (t : Bool) → endsHere (b ∷ s) ≡ t → isDigit b ≡ false → begins isDigit (line (b ∷ s)) ≡ false
+unfolding line
+no-digit b s true e f = rw e
+no-digit b s false e f = rw (e, f)
+
+digit-or-not : (b : ℕ) (s : List ℕ) (t : Bool) → isDigit b ≡ t → Run s (digits s) (drop (length (digits s)) s) → Run (b ∷ s) (digits (b ∷ s)) (drop (length (digits (b ∷ s))) (b ∷ s))
+unfolding allPass
+digit-or-not b s true e h =
+    let f = digit-plain b s e .1 in
+    rw (digits-on b s e)
+    (record { all = rw e (h .all); split = rw (line-on b s f) (ap (λ (l : List ℕ). b ∷ l) (h .split)); stop = h .stop; next = later-on b s f ∙ h .next })
+digit-or-not b s false e h = rw (digits-off b s e) (record { all = refl; split = refl; stop = no-digit b s (endsHere (b ∷ s)) refl e; next = refl })
+
+pub run : (s : List ℕ) → Run s (digits s) (drop (length (digits s)) s)
+unfolding digits allPass line
+run [] = record { all = refl; split = refl; stop = refl; next = refl }
+run (b ∷ s) = digit-or-not b s (isDigit b) refl (run s)
+
 -- ---- a field, and the fields after it
-
-abbrev pub some : List ℕ → Bool
-some [] = false
-some (b ∷ s) = true
-
--- the rest of a line begins with a field exactly where a field stands
-meets : (b : ℕ) (s : List ℕ) (t u : Bool) → isBlank b ≡ t → endsHere (b ∷ s) ≡ u → begins isInner (line (b ∷ s)) ≡ some (word (b ∷ s))
-unfolding line word
-meets b s true true e f = rw (f, e)
-meets b s false true e f = rw (f, e)
-meets b s true false e f = rw (f, e)
-meets b s false false e f = rw (f, e)
-
-begins-line : (s : List ℕ) → begins isInner (line s) ≡ some (word s)
-unfolding line word
-begins-line [] = refl
-begins-line (b ∷ s) = meets b s (isBlank b) (endsHere (b ∷ s)) refl refl
 
 fields-inner : (b : ℕ) (l : List ℕ) → isBlank b ≡ false → fields (b ∷ l) ≡ cond (begins isInner l) (onto b (fields l)) ((b ∷ []) ∷ fields l)
 unfolding fields
 fields-inner b l e = rw e
 
--- one byte more before a field, or before none
-grows : (b : ℕ) (s w : List ℕ) → isBlank b ≡ false → endsHere (b ∷ s) ≡ false → word s ≡ w → (some w ≡ true → fields (line s) ≡ w ∷ fields (line (drop (length w) s)))
-    → fields (line (b ∷ s)) ≡ (b ∷ w) ∷ fields (line (drop (length w) s))
-grows b s [] e f q h = rw (line-on b s f, fields-inner b (line s) e, begins-line s, q)
-grows b s (d ∷ w) e f q h = rw (line-on b s f, fields-inner b (line s) e, begins-line s, q, h refl)
+-- a run of digits before no field's byte is a field
+fields-run : (b : ℕ) (d l : List ℕ) → allPass isDigit (b ∷ d) ≡ true → begins isInner l ≡ false → fields ((b ∷ d) ++ l) ≡ (b ∷ d) ∷ fields l
+unfolding allPass
+fields-run b [] l e f = let h = both (isDigit b) true e in rw (fields-inner b l (digit-plain b [] (h .0) .0), f)
+fields-run b (c ∷ d) l e f =
+    let h = both (isDigit b) (isDigit c && allPass isDigit d) e in
+    let k = both (isDigit c) (allPass isDigit d) (h .1) in
+    rw (fields-inner b ((c ∷ d) ++ l) (digit-plain b [] (h .0) .0), digit-plain c [] (k .0) .0, fields-run c d l (h .1) f)
 
-word-on : (b : ℕ) (s : List ℕ) → isBlank b ≡ false → endsHere (b ∷ s) ≡ false → word (b ∷ s) ≡ b ∷ word s
-unfolding word
-word-on b s e f = rw (e, f)
+-- whether the first piece has another byte than digits
+abbrev strays : List (List ℕ) → Bool
+strays [] = false
+strays (piece ∷ pieces) = not (allPass isDigit piece)
 
-word-off : (b : ℕ) (s : List ℕ) → (isBlank b || endsHere (b ∷ s)) ≡ true → word (b ∷ s) ≡ []
-unfolding word
-word-off b s e = rw e
+strays-bad : (ws : List (List ℕ)) → strays ws ≡ true → allPass isField ws ≡ false
+unfolding allPass
+strays-bad [] e = let z : _≡_ {A = ℕ} 0 1 = cc in absurd (omega arith)
+strays-bad (w ∷ ws) e = rw (not-true (allPass isDigit w) e, and-false (leb (length w) 8), and-false (leb 1 (length w)))
 
-pub fields-word : (s : List ℕ) → some (word s) ≡ true → fields (line s) ≡ word s ∷ fields (line (drop (length (word s)) s))
-unfolding word
-fields-word [] h = absurd (let z : _≡_ {A = ℕ} 0 1 = cc in omega arith)
-fields-word (b ∷ s) h = cases (isBlank b || endsHere (b ∷ s)) refl (fields-word s)
-  where
-    cases : (t : Bool) → (isBlank b || endsHere (b ∷ s)) ≡ t → (some (word s) ≡ true → fields (line s) ≡ word s ∷ fields (line (drop (length (word s)) s)))
-        → fields (line (b ∷ s)) ≡ word (b ∷ s) ∷ fields (line (drop (length (word (b ∷ s))) (b ∷ s)))
-    cases true e k = absurd (let f : some [] ≡ true = rw (word-off b s e) at h in let z : _≡_ {A = ℕ} 0 1 = cc in omega arith)
-    cases false e k =
-        let x = neither (isBlank b) (endsHere (b ∷ s)) e in
-        rw (word-on b s (x .0) (x .1)) (grows b s (word s) (x .0) (x .1) refl k)
+strays-first : (t : Bool) (x : ℕ) (ws : List (List ℕ)) → isDigit x ≡ false → strays (cond t (onto x ws) ((x ∷ []) ∷ ws)) ≡ true
+unfolding allPass
+strays-first true x [] e = rw e
+strays-first true x (w ∷ ws) e = rw e
+strays-first false x ws e = rw e
 
-later-off : (b : ℕ) (s : List ℕ) (t : Bool) → (isBlank b || endsHere (b ∷ s)) ≡ t → later s ≡ later (drop (length (word s)) s) → later (b ∷ s) ≡ later (drop (length (word (b ∷ s))) (b ∷ s))
-later-off b s true e h = rw (word-off b s e)
-later-off b s false e h = let x = neither (isBlank b) (endsHere (b ∷ s)) e in rw (word-on b s (x .0) (x .1), later-on b s (x .1)) h
+strays-onto : (b : ℕ) (ws : List (List ℕ)) → strays ws ≡ true → strays (onto b ws) ≡ true
+unfolding allPass
+strays-onto b [] e = let z : _≡_ {A = ℕ} 0 1 = cc in absurd (omega arith)
+strays-onto b (w ∷ ws) e = rw (not-true (allPass isDigit w) e, and-false (isDigit b))
 
-pub later-word : (s : List ℕ) → later s ≡ later (drop (length (word s)) s)
-unfolding word
-later-word [] = refl
-later-word (b ∷ s) = later-off b s (isBlank b || endsHere (b ∷ s)) refl (later-word s)
+begins-run : (d : List ℕ) (x : ℕ) (l : List ℕ) → allPass isDigit d ≡ true → isBlank x ≡ false → begins isInner (d ++ x ∷ l) ≡ true
+unfolding allPass
+begins-run [] x l e f = rw f
+begins-run (b ∷ d) x l e f = rw (digit-plain b [] (both (isDigit b) (allPass isDigit d) e .0) .0)
 
--- where no field stands behind the blanks, the line is at its end
-at-end : (b : ℕ) (s : List ℕ) (t u : Bool) → isBlank b ≡ t → endsHere (b ∷ s) ≡ u → blanks (b ∷ s) ≡ 0 → word (b ∷ s) ≡ [] → line (b ∷ s) ≡ []
-unfolding line blanks word
-at-end b s t true e f h k = rw f
-at-end b s true false e f h k = let z : _≡_ {A = ℕ} (suc (blanks s)) 0 = rw e at h in absurd (omega arith)
-at-end b s false false e f h k = let z : _≡_ {A = List ℕ} (b ∷ word s) [] = rw (e, f) at k in let y : _≡_ {A = ℕ} 0 1 = cc in absurd (omega arith)
+strays-run : (d : List ℕ) (x : ℕ) (l : List ℕ) → allPass isDigit d ≡ true → isBlank x ≡ false → isDigit x ≡ false → strays (fields (d ++ x ∷ l)) ≡ true
+unfolding allPass
+strays-run [] x l e f g = rw (fields-inner x l f) (strays-first (begins isInner l) x (fields l) g)
+strays-run (b ∷ d) x l e f g =
+    let h = both (isDigit b) (allPass isDigit d) e in
+    rw (fields-inner b (d ++ x ∷ l) (digit-plain b [] (h .0) .0), begins-run d x l (h .1) f) (strays-onto b (fields (d ++ x ∷ l)) (strays-run d x l (h .1) f g))
 
-pub line-end : (s : List ℕ) → blanks s ≡ 0 → word s ≡ [] → line s ≡ []
+-- a byte that is neither digit nor blank spoils its line, whatever digits stand before it
+stray : (d : List ℕ) (x : ℕ) (l : List ℕ) → allPass isDigit d ≡ true → isBlank x ≡ false → isDigit x ≡ false → proper (d ++ x ∷ l) ≡ false
+unfolding proper
+stray d x l e f g = strays-bad (fields (d ++ x ∷ l)) (strays-run d x l e f g)
+
+-- a run of digits is a field before those behind it, or the line is spoilt with it and without it
+abbrev pub FieldOrSpoilt : List ℕ → List ℕ → Type 0
+FieldOrSpoilt d l = (fields (d ++ l) ≡ d ∷ fields l) ⊎ ((proper (d ++ l) ≡ false) × (proper l ≡ false))
+
+blank-or-not : (b : ℕ) (d : List ℕ) (x : ℕ) (l : List ℕ) (t : Bool) → isBlank x ≡ t → allPass isDigit (b ∷ d) ≡ true → isDigit x ≡ false → FieldOrSpoilt (b ∷ d) (x ∷ l)
+unfolding allPass
+blank-or-not b d x l true f e g = inl (fields-run b d (x ∷ l) e (rw f))
+blank-or-not b d x l false f e g = inr (stray (b ∷ d) x l e f g, stray [] x l refl f g)
+
+pub field-or-spoilt : (d l : List ℕ) → 1 ≤ length d → allPass isDigit d ≡ true → begins isDigit l ≡ false → FieldOrSpoilt d l
+field-or-spoilt [] l h e f = absurd (omega arith)
+field-or-spoilt (b ∷ d) [] h e f = inl (fields-run b d [] e refl)
+field-or-spoilt (b ∷ d) (x ∷ l) h e f = blank-or-not b d x l (isBlank x) refl e f
+
+-- ---- where no digit stands
+
+pub line-off : (b : ℕ) (s : List ℕ) → endsHere (b ∷ s) ≡ true → line (b ∷ s) ≡ []
 unfolding line
-line-end [] h k = refl
-line-end (b ∷ s) h k = at-end b s (isBlank b) (endsHere (b ∷ s)) refl refl h k
+line-off b s e = rw e
 
--- and if LF does not stand there, CR LF does
-two-left : (b : ℕ) (s : List ℕ) (t u : Bool) → isBlank b ≡ t → isReturn b s ≡ u → (b ≡ 10 → ⊥) → blanks (b ∷ s) ≡ 0 → word (b ∷ s) ≡ [] → lineSize (b ∷ s) ≡ 2
-unfolding blanks word lineSize
-two-left b s true u e f g h k = let z : _≡_ {A = ℕ} (suc (blanks s)) 0 = rw e at h in absurd (omega arith)
-two-left b s false false e f g h k = let z : _≡_ {A = List ℕ} (b ∷ word s) [] = rw (e, ne-eqb b 10 g, f) at k in let y : _≡_ {A = ℕ} 0 1 = cc in absurd (omega arith)
-two-left b [] false true e f g h k = let z = both (eqb b 13) false f .1 in let y : _≡_ {A = ℕ} 0 1 = cc in absurd (omega arith)
-two-left b (d ∷ s) false true e f g h k = rw (ne-eqb b 10 g, both (eqb b 13) (isFeed d) f .1)
+not-blank : (b : ℕ) (s : List ℕ) (t : Bool) → isBlank b ≡ t → blanks (b ∷ s) ≡ 0 → isBlank b ≡ false
+unfolding blanks
+not-blank b s true e h = let z : _≡_ {A = ℕ} (suc (blanks s)) 0 = rw e at h in absurd (omega arith)
+not-blank b s false e h = e
 
-pub size-return : (s : List ℕ) (i : ℕ) → i < length s → (getD s i 0 ≡ 10 → ⊥) → blanks (drop i s) ≡ 0 → word (drop i s) ≡ [] → lineSize (drop i s) ≡ 2
-size-return s i h g =
-    rw (drop-cons s i 0 h)
-    (two-left (getD s i 0) (drop (suc i) s) (isBlank (getD s i 0)) (isReturn (getD s i 0) (drop (suc i) s)) refl refl g)
+not-digit : (b : ℕ) (s : List ℕ) (t : Bool) → isDigit b ≡ t → digits (b ∷ s) ≡ [] → isDigit b ≡ false
+not-digit b s true e h = let z : _≡_ {A = List ℕ} (b ∷ digits s) [] = sym (digits-on b s e) ∙ h in let y : _≡_ {A = ℕ} 0 1 = cc in absurd (omega arith)
+not-digit b s false e h = e
+
+-- where the line does not end and neither a blank nor a digit stands, the line is spoilt
+pub spoilt : (b : ℕ) (s : List ℕ) → blanks (b ∷ s) ≡ 0 → digits (b ∷ s) ≡ [] → endsHere (b ∷ s) ≡ false → proper (line (b ∷ s)) ≡ false
+unfolding allPass
+spoilt b s h k e = rw (line-on b s e) (stray [] b (line s) refl (not-blank b s (isBlank b) refl h) (not-digit b s (isDigit b) refl k))
+
+-- a line's end without LF in front is CR LF
+return-feed : (b : ℕ) (s : List ℕ) → (b ≡ 10 → ⊥) → isReturn b s ≡ true → lineSize (b ∷ s) ≡ 2
+unfolding lineSize
+return-feed b [] g f = let z = both (eqb b 13) false f .1 in let y : _≡_ {A = ℕ} 0 1 = cc in absurd (omega arith)
+return-feed b (d ∷ s) g f = rw (ne-eqb b 10 g, both (eqb b 13) (isFeed d) f .1)
+
+pub size-return : (b : ℕ) (s : List ℕ) → (b ≡ 10 → ⊥) → endsHere (b ∷ s) ≡ true → lineSize (b ∷ s) ≡ 2
+size-return b s g e = return-feed b s g (rw (ne-eqb b 10 g) at e)
 
 pub fields-none : fields [] ≡ []
 unfolding fields
@@ -231,7 +284,3 @@ some-size false n = omega arith
 pub size-on : (s : List ℕ) (i : ℕ) → i < length s → i < i + lineSize (drop i s)
 unfolding lineSize
 size-on s i h = rw (drop-cons s i 0 h) (omega (arith, some-size (isFeed (getD s i 0)) (lineSize (drop (suc i) s))))
-
-pub full-length : (w : List ℕ) → some w ≡ true → 1 ≤ length w
-full-length [] h = let z : _≡_ {A = ℕ} 0 1 = cc in absurd (omega arith)
-full-length (b ∷ w) h = omega arith

@@ -1,6 +1,6 @@
--- What stands at a place of a text: spaces and tabs, a field, a line's end. Assumes nothing.
+-- What stands at a place of a text: spaces and tabs, digits, a line's end. Assumes nothing.
 use Prim.Native.Nat.{ℕ, suc, _+_, _≤_, _<_}
-use mathlib.Core.Path.{_≡_, refl, _∙_, ap}
+use mathlib.Core.Path.{_≡_, refl, ap}
 use mathlib.Core.List.{List, [], _∷_}
 use mathlib.Core.Bool.{Bool, true, false, cond, _||_}
 use native.Mathlib.Omega.{arith}
@@ -8,7 +8,7 @@ use lib.ListN.{length, take, drop, getD, length-drop, drop-of-length-le}
 use lib.Seq.{drop-cons}
 use lib.Dec.{eqb}
 use borrow.Author.Tests.{ne-eqb}
-use Rattle.terms.specs.Texts.{isBlank, isFeed, isReturn, begins, endsHere, blanks, word}
+use Rattle.terms.specs.Texts.{isBlank, isDigit, isFeed, isReturn, endsHere, blanks, digits}
 use Rattle.text.specs.Steps.{lineSize}
 
 module _ (s : List ℕ) (i : ℕ) (h : i < length s) where
@@ -31,22 +31,13 @@ module _ (s : List ℕ) (i : ℕ) (h : i < length s) where
   at-endsHere : endsHere (drop i s) ≡ (isFeed (getD s i 0) || isReturn (getD s i 0) (drop (suc i) s))
   at-endsHere = rw (drop-cons s i 0 h)
 
-  pub word-stop : (begins isBlank (drop i s) || endsHere (drop i s)) ≡ true → word (drop i s) ≡ []
-  unfolding word
-  word-stop e = let f : (isBlank (getD s i 0) || endsHere (getD s i 0 ∷ drop (suc i) s)) ≡ true = rw (drop-cons s i 0 h) at e in rw (drop-cons s i 0 h, f)
+  pub digits-stop : isDigit (getD s i 0) ≡ false → digits (drop i s) ≡ []
+  unfolding digits
+  digits-stop e = rw (drop-cons s i 0 h, e)
 
-  pub word-on : (begins isBlank (drop i s) || endsHere (drop i s)) ≡ false → word (drop i s) ≡ getD s i 0 ∷ word (drop (suc i) s)
-  unfolding word
-  word-on e = let f : (isBlank (getD s i 0) || endsHere (getD s i 0 ∷ drop (suc i) s)) ≡ false = rw (drop-cons s i 0 h) at e in rw (drop-cons s i 0 h, f)
-
-  pub stops-high : 32 < getD s i 0 → false ≡ (begins isBlank (drop i s) || endsHere (drop i s))
-  stops-high l = rw (drop-cons s i 0 h, ne-eqb (getD s i 0) 32 (λ e. omega arith), ne-eqb (getD s i 0) 9 (λ e. omega arith), ne-eqb (getD s i 0) 10 (λ e. omega arith), ne-eqb (getD s i 0) 13 (λ e. omega arith))
-
-  pub stops-blank : isBlank (getD s i 0) ≡ true → true ≡ (begins isBlank (drop i s) || endsHere (drop i s))
-  stops-blank e = rw (drop-cons s i 0 h, e)
-
-  pub stops-other : (r : Bool) → isBlank (getD s i 0) ≡ false → r ≡ endsHere (drop i s) → r ≡ (begins isBlank (drop i s) || endsHere (drop i s))
-  stops-other r e f = f ∙ rw (drop-cons s i 0 h, e)
+  pub digits-go : isDigit (getD s i 0) ≡ true → digits (drop i s) ≡ getD s i 0 ∷ digits (drop (suc i) s)
+  unfolding digits
+  digits-go e = rw (drop-cons s i 0 h, e)
 
   -- a line end: LF, or CR and then LF
   pub endsHere-feed : getD s i 0 ≡ 10 → true ≡ endsHere (drop i s)
@@ -66,9 +57,9 @@ module _ (s : List ℕ) (i : ℕ) (h : length s ≤ i) where
   unfolding blanks
   blanks-end = rw (drop-of-length-le s h)
 
-  pub word-none : word (drop i s) ≡ []
-  unfolding word
-  word-none = rw (drop-of-length-le s h)
+  pub digits-end : digits (drop i s) ≡ []
+  unfolding digits
+  digits-end = rw (drop-of-length-le s h)
 
   pub size-none : lineSize (drop i s) ≡ 0
   unfolding lineSize
@@ -93,14 +84,14 @@ unfolding lineSize
 size-le [] = omega arith
 size-le (b ∷ s) = longer (isFeed b) (lineSize s) (length s) (size-le s)
 
-short : (t : Bool) (b : ℕ) (w : List ℕ) (m : ℕ) → length w ≤ m → length (cond t [] (b ∷ w)) ≤ suc m
-short true b w m h = omega arith
-short false b w m h = omega arith
+short : (t : Bool) (b : ℕ) (d : List ℕ) (m : ℕ) → length d ≤ m → length (cond t (b ∷ d) []) ≤ suc m
+short true b d m h = omega arith
+short false b d m h = omega arith
 
-pub word-le : (s : List ℕ) → length (word s) ≤ length s
-unfolding word
-word-le [] = omega arith
-word-le (b ∷ s) = short (isBlank b || endsHere (b ∷ s)) b (word s) (length s) (word-le s)
+pub digits-le : (s : List ℕ) → length (digits s) ≤ length s
+unfolding digits
+digits-le [] = omega arith
+digits-le (b ∷ s) = short (isDigit b) b (digits s) (length s) (digits-le s)
 
 pub blanks-within : (s : List ℕ) (i : ℕ) → i ≤ length s → i + blanks (drop i s) ≤ length s
 blanks-within s i h = omega (arith, blanks-le (drop i s), length-drop i s)
@@ -108,15 +99,15 @@ blanks-within s i h = omega (arith, blanks-le (drop i s), length-drop i s)
 pub size-within : (s : List ℕ) (i : ℕ) → i ≤ length s → i + lineSize (drop i s) ≤ length s
 size-within s i h = omega (arith, size-le (drop i s), length-drop i s)
 
-pub word-within : (s : List ℕ) (i : ℕ) → i ≤ length s → i + length (word (drop i s)) ≤ length s
-word-within s i h = omega (arith, word-le (drop i s), length-drop i s)
+pub digits-within : (s : List ℕ) (i : ℕ) → i ≤ length s → i + length (digits (drop i s)) ≤ length s
+digits-within s i h = omega (arith, digits-le (drop i s), length-drop i s)
 
--- the field is that part of the text
-part-of : (t : Bool) (b : ℕ) (s w : List ℕ) → take (length w) s ≡ w → take (length (cond t [] (b ∷ w))) (b ∷ s) ≡ cond t [] (b ∷ w)
-part-of true b s w h = refl
-part-of false b s w h = ap (λ (l : List ℕ). b ∷ l) h
+-- the digits are that part of the text
+part-of : (t : Bool) (b : ℕ) (s d : List ℕ) → take (length d) s ≡ d → take (length (cond t (b ∷ d) [])) (b ∷ s) ≡ cond t (b ∷ d) []
+part-of true b s d h = ap (λ (l : List ℕ). b ∷ l) h
+part-of false b s d h = refl
 
-pub word-part : (s : List ℕ) → take (length (word s)) s ≡ word s
-unfolding word
-word-part [] = refl
-word-part (b ∷ s) = part-of (isBlank b || endsHere (b ∷ s)) b s (word s) (word-part s)
+pub digits-part : (s : List ℕ) → take (length (digits s)) s ≡ digits s
+unfolding digits
+digits-part [] = refl
+digits-part (b ∷ s) = part-of (isDigit b) b s (digits s) (digits-part s)

@@ -26,10 +26,11 @@ pub record Ended (text : List ℕ) (at e : ℕ) : Type 0 where
   pub past : at ≤ e
   pub on : at < length text → at < e
 
--- the next field of the line at hand has the value v and is passed at e
+-- the digits that stand next on the line at hand have the value v and are passed at e
 pub record Passed (text : List ℕ) (at v e : ℕ) : Type 0 where
   pub sound : proper (line (drop at text)) ≡ proper (line (drop e text))
-  pub some : numbers (line (drop at text)) ≡ v ∷ numbers (line (drop e text))
+  -- where the rest of the line is well shaped, v is the number before its numbers
+  pub some : proper (line (drop e text)) ≡ true → numbers (line (drop at text)) ≡ v ∷ numbers (line (drop e text))
   pub next : later (drop at text) ≡ later (drop e text)
   pub inside : e ≤ length text
   pub on : at < e

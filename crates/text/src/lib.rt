@@ -1,17 +1,10 @@
 // The fields, numbers and lines of a text, from a place in it on. A place past the end is as good as the end.
 ghost use mathlib.Core.Path.{_≡_};
-ghost use mathlib.Core.List.{[]};
-ghost use mathlib.Core.Bool.{_||_};
-ghost use Prim.Native.Nat.{_<_, _+_};
+ghost use mathlib.Core.Bool.{true};
+ghost use Prim.Native.Nat.{_<_, _≤_, _+_};
 ghost use lib.ListN.{length, drop};
-ghost use Rattle.terms.specs.Texts.{begins, isBlank, isDigit, endsHere, blanks, word, nextField};
-ghost use Rattle.text.specs.Steps.{lineSize, numberOf, nextNumber};
-
-// The number that a piece of text spells, or that it spells none.
-pub enum FieldValue {
-    Is(usize),
-    Misshapen,
-}
+ghost use Rattle.terms.specs.Texts.{allPass, isBlank, isDigit, value, endsHere, blanks, digits, nextField};
+ghost use Rattle.text.specs.Steps.{lineSize, noNumber, nextNumber};
 
 // What stands next on a line: its end, and where the next line begins; a piece that is no number; or a number, and the place behind it.
 pub enum Next {
@@ -62,21 +55,6 @@ fn line_ends(text: &[u8], at: usize) -> bool
     text[at + 1] == 10
 }
 
-// Whether a field that reaches up to `at` ends there. Most bytes are digits, which one test passes.
-fn field_ends(text: &[u8], at: usize) -> bool
-    requires { ⌜ at < length (now text) ⌝ }
-    ensures { λ r. ⌜ r ≡ (begins isBlank (drop at (now (text .entry))) || endsHere (drop at (now (text .entry)))) ⌝ }
-{
-    let b = text[at];
-    if 32 < b {
-        return false;
-    }
-    if is_blank(b) {
-        return true;
-    }
-    line_ends(text, at)
-}
-
 // The first place from `at` on that holds no space and no tab.
 fn blanks_end(text: &[u8], at: usize) -> usize
     ensures { λ r. ⌜ r ≡ at + blanks (drop at (now (text .entry))) ⌝ }
@@ -91,13 +69,13 @@ fn blanks_end(text: &[u8], at: usize) -> usize
     i
 }
 
-// The first place from `at` on at which a field would end.
-fn field_end(text: &[u8], at: usize) -> usize
-    ensures { λ r. ⌜ r ≡ at + length (word (drop at (now (text .entry)))) ⌝ }
+// The first place from `at` on that holds no digit.
+fn digits_end(text: &[u8], at: usize) -> usize
+    ensures { λ r. ⌜ r ≡ at + length (digits (drop at (now (text .entry)))) ⌝ }
 {
     let mut i = at;
     while i < text.len() {
-        if field_ends(text, i) {
+        if !is_digit(text[i]) {
             return i;
         }
         i += 1;
@@ -119,73 +97,67 @@ pub fn line_after(text: &[u8], at: usize) -> usize
     i
 }
 
-// The field that begins at `at`, as that piece of the lent text.
+// The digits that stand at `at`, as that piece of the lent text.
 fn field_from(text: &[u8], at: usize) -> &[u8]
-    ensures { λ r. ⌜ now r ≡ word (drop at (now (text .entry))) ⌝ }
+    ensures { λ r. ⌜ now r ≡ digits (drop at (now (text .entry))) ⌝ }
 {
-    if text.len() <= at {
+    let end = digits_end(text, at);
+    if end == at {
         return &text[0..0];
     }
-    let end = field_end(text, at);
     &text[at..end]
 }
 
-// The next field from `at` on, as that piece of the lent text.
+// The next field from `at` on, as that piece of the lent text which holds its digits.
 pub fn next_field(text: &[u8], at: usize) -> &[u8]
     ensures { λ r. ⌜ now r ≡ nextField (drop at (now (text .entry))) ⌝ }
 {
     field_from(text, blanks_end(text, at))
 }
 
-// The number of a field, which is 1 to 8 digits.
-pub fn number_of(piece: &[u8]) -> FieldValue
-    ensures { λ r. ⌜ r ≡ numberOf (now (piece .entry)) ⌝ }
+// The number of a field. Its first digit stands before the loop, as many fields have no other.
+fn value_of(field: &[u8]) -> usize
+    requires { ⌜ (1 ≤ length (now field)) × (length (now field) ≤ 8) × (allPass isDigit (now field) ≡ true) ⌝ }
+    ensures { λ r. ⌜ r ≡ value (now (field .entry)) ⌝ }
 {
-    if piece.len() < 1 {
-        return FieldValue::Misshapen;
-    }
-    if 8 < piece.len() {
-        return FieldValue::Misshapen;
-    }
-    let mut value: usize = 0;
-    let mut i = 0;
-    while i < piece.len() {
-        let b = piece[i];
-        if !is_digit(b) {
-            return FieldValue::Misshapen;
-        }
-        value = value * 10 + wide(b - 48);
+    let mut number = wide(field[0] - 48);
+    let mut i: usize = 1;
+    while i < field.len() {
+        number = number * 10 + wide(field[i] - 48);
         i += 1;
     }
-    FieldValue::Is(value)
+    number
 }
 
-// The place behind the line end at `at`, where no field begins and no space or tab stands: LF, CR and LF, or nothing at the text's end.
-fn past_end(text: &[u8], at: usize) -> usize
-    requires { ⌜ (blanks (drop at (now text)) ≡ 0) × (word (drop at (now text)) ≡ []) ⌝ }
-    ensures { λ r. ⌜ r ≡ at + lineSize (drop at (now (text .entry))) ⌝ }
+// What stands at `at`, where no digit and no space or tab is: the line's end (nothing, LF, or CR and LF), or a piece that is no number.
+fn no_number(text: &[u8], at: usize) -> Next
+    ensures { λ r. ⌜ r ≡ noNumber at (drop at (now (text .entry))) ⌝ }
 {
     if text.len() <= at {
-        return at;
+        return Next::LineEnd(at);
+    }
+    if !line_ends(text, at) {
+        return Next::Misshapen;
     }
     if text[at] == 10 {
-        return at + 1;
+        return Next::LineEnd(at + 1);
     }
-    at + 2
+    Next::LineEnd(at + 2)
 }
 
-// What stands next on the line at `at`: the field is taken as a piece of the text, then read as a number.
+// What stands next on the line at `at`: the field is taken as a piece of the text, then read as a number. What follows it on the line
+// is for the next call, which meets what is no field either.
 pub fn next_number(text: &[u8], at: usize) -> Next
     ensures { λ r. ⌜ r ≡ nextNumber at (drop at (now (text .entry))) ⌝ }
 {
     let start = blanks_end(text, at);
-    let piece = field_from(text, start);
-    let size = piece.len();
+    let field = field_from(text, start);
+    let size = field.len();
     if size == 0 {
-        return Next::LineEnd(past_end(text, start));
+        return no_number(text, start);
     }
-    match number_of(piece) {
-        FieldValue::Misshapen => Next::Misshapen,
-        FieldValue::Is(v) => Next::Field(v, start + size),
+    if 8 < size {
+        return Next::Misshapen;
     }
+    Next::Field(value_of(field), start + size)
 }

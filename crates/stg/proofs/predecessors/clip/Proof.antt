@@ -4,8 +4,8 @@ use Prim.Native.Nat.{ℕ, _≤_, _<_}
 use native.Mathlib.Omega.{arith}
 use borrow.Author.Tests.{le-leb, lt-leb}
 use Rattle.stg.specs.Told.{clipped}
-use Rattle.stg.proofs.line.clip.Statement.{statement}
-use Rattle.stg.proofs.line.clip.Tie as tie
+use Rattle.stg.proofs.predecessors.clip.Statement.{statement}
+use Rattle.stg.proofs.predecessors.clip.Tie as tie
 
 high : (x : ℕ) → 65535 < x → 65535 ≡ clipped x
 high x h = rw (lt-leb x 65535 h)
