@@ -14,6 +14,7 @@ use terms::PlanEnd;
 use terms::Processor;
 use terms::Refusal;
 use terms::Verdict;
+use text::next_field;
 use verdict::judge;
 ghost use mathlib.Core.Path.{_≡_};
 ghost use lib.ListN.{length};
@@ -208,10 +209,18 @@ fn refusals() {
     print(b"\n");
 }
 
+// The next field of a text, as the piece of it that holds the digits.
+fn next_piece() {
+    print(b"next field ");
+    print(next_field(b" \t12 3", 0));
+    print(b"\n");
+}
+
 fn main() {
     graph_g();
     small_graphs();
     limits();
     print(b"\nrefusals");
     refusals();
+    next_piece();
 }

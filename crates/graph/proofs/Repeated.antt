@@ -12,7 +12,7 @@ use Rattle.terms.specs.Refusals.{Repeats}
 use Rattle.graph.specs.First.{First, Earlier}
 use Rattle.graph.specs.Chains.{Tidy, Last}
 use Rattle.graph.proofs.Stores.{read-set, read-sets}
-use Rattle.graph.proofs.Chained.{Side, passed, level, ahead, side, from-small}
+use Rattle.graph.proofs.Chained.{from-small, passed-now}
 
 -- a position was found, and none later than j's
 pub record FoundBy (found j : ℕ) : Type 0 where
@@ -58,7 +58,7 @@ module _ (arrows : List (List ℕ)) where
   }
 
   -- on to the chain of the next subtask, in which no arrow was met
-  pub met-next : (seen met : List ℕ) (found v x : ℕ) → Last arrows (v + 1) (length arrows) x → Met seen met found v 0 → Met seen met found (v + 1) x
+  pub met-next : (seen met : List ℕ) (found v x : ℕ) → Last (toOf arrows) (v + 1) (length arrows) x → Met seen met found v 0 → Met seen met found (v + 1) x
   met-next seen met found v x last r = record {
     long-seen = r .long-seen;
     long-met = r .long-met;
@@ -90,7 +90,7 @@ module _ (arrows : List (List ℕ)) where
     some = omega (arith, to-v, tidy .to-in (c - 1) at-cursor .low)
 
     pub met-pass : (same found' x : ℕ) → (getD seen u 0 ≡ v → same ≡ getD met u 0) × (¬ (getD seen u 0 ≡ v) → same ≡ 0) → Earlier found same found'
-        → Last arrows (toOf arrows (c - 1)) (c - 1) x → Met (set seen u v) (set met u c) found' v x
+        → Last (toOf arrows) (toOf arrows (c - 1)) (c - 1) x → Met (set seen u v) (set met u c) found' v x
     met-pass same found' x told early last = record {
       long-seen = length-set seen u v ∙ r .long-seen;
       long-met = length-set met u c ∙ r .long-met;
@@ -134,29 +134,23 @@ module _ (arrows : List (List ℕ)) where
             go (no s) = absurd (omega (arith, l, told .1 s))
 
         near' : (k : ℕ) → x ≤ k → k < length arrows → toOf arrows k ≡ v → (getD (set seen u v) (fromOf arrows k) 0 ≡ v) × (getD (set met u c) (fromOf arrows k) 0 ≤ k + 1)
-        near' k a l e = go (side c k)
+        near' k a l e = passed-now c k to-v last a e
+            (λ b. stored (λ _. omega (arith, b)) (λ _. r .near k b l e))
+            (λ q. stored (λ _. omega (arith, q)) (λ z. absurd (z (ap (λ (y : ℕ). fromOf arrows y) q ∙ sym eu))))
           where
             stored : (fromOf arrows k ≡ u → c ≤ k + 1) → (¬ (fromOf arrows k ≡ u) → (getD seen (fromOf arrows k) 0 ≡ v) × (getD met (fromOf arrows k) 0 ≤ k + 1))
                 → (getD (set seen u v) (fromOf arrows k) 0 ≡ v) × (getD (set met u c) (fromOf arrows k) 0 ≤ k + 1)
             stored here there = read-sets (λ s m. (s ≡ v) × (m ≤ k + 1)) seen met u v c (fromOf arrows k) ls lm (λ q. (refl, here q)) there
 
-            go : Side c k → (getD (set seen u v) (fromOf arrows k) 0 ≡ v) × (getD (set met u c) (fromOf arrows k) 0 ≤ k + 1)
-            go (passed b) = stored (λ _. omega (arith, b)) (λ _. r .near k b l e)
-            go (level q) = stored (λ _. omega (arith, q)) (λ z. absurd (z (ap (λ (y : ℕ). fromOf arrows y) q ∙ sym eu)))
-            go (ahead b) = absurd (last .gap k a b (e ∙ sym to-v))
-
         new' : (i j : ℕ) → i < j → j < length arrows → toOf arrows j ≡ v → x ≤ i → Alike i j → FoundBy found' j
-        new' i j a l e b z = go (side c i)
-          where
-            go : Side c i → FoundBy found' j
-            go (passed q) = keep j (r .new i j a l e q z)
-            go (level q) =
-                let from-u : fromOf arrows j ≡ u = sym (z .0) ∙ ap (λ (y : ℕ). fromOf arrows y) q ∙ sym eu in
-                let near : (getD seen u 0 ≡ v) × (getD met u 0 ≤ j + 1) = rw from-u at (r .near j (omega (arith, q, a)) l e) in
-                let is = told .0 (near .0) in
-                let f = early .right (omega (arith, is, r .kept some u from-cursor (near .0) .behind)) in
-                record { some = f .0; early = omega (arith, f .1, is, near .1) }
-            go (ahead q) = absurd (last .gap i b q (z .1 ∙ e ∙ sym to-v))
+        new' i j a l e b z = passed-now c i to-v last b (z .1 ∙ e)
+            (λ q. keep j (r .new i j a l e q z))
+            (λ q.
+            let from-u : fromOf arrows j ≡ u = sym (z .0) ∙ ap (λ (y : ℕ). fromOf arrows y) q ∙ sym eu in
+            let near : (getD seen u 0 ≡ v) × (getD met u 0 ≤ j + 1) = rw from-u at (r .near j (omega (arith, q, a)) l e) in
+            let is = told .0 (near .0) in
+            let f = early .right (omega (arith, is, r .kept some u from-cursor (near .0) .behind)) in
+            record { some = f .0; early = omega (arith, f .1, is, near .1) })
 
   pub met-end : (n : ℕ) (seen met : List ℕ) (found : ℕ) → Tidy n arrows → Met seen met found n 0 → First (length arrows) (Repeats arrows) found
   met-end n seen met found tidy r = record {

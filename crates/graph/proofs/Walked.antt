@@ -12,7 +12,7 @@ use Rattle.terms.specs.Graphs.{Among, fromOf, toOf, LeadsTo, step, more}
 use Rattle.graph.specs.Chains.{Tidy, Last, Chains}
 use Rattle.graph.specs.Ordered.{StandsBelow, Ordered}
 use Rattle.graph.proofs.Stores.{read-set}
-use Rattle.graph.proofs.Chained.{Side, passed, level, ahead, side, from-small}
+use Rattle.graph.proofs.Chained.{from-small, passed-now}
 use Rattle.graph.proofs.Tallies.{tally, tally-set, tally-none, tally-all, new, unplaced, new-is, new-not, unplaced-is, unplaced-not}
 
 module _ (n : ℕ) (arrows : List (List ℕ)) where
@@ -101,7 +101,7 @@ module _ (n : ℕ) (arrows : List (List ℕ)) where
         (λ qv _. read-set (λ y. e ≡ y → v ≡ w) marks p e w lp (λ qw _. qv ∙ sym qw) (λ _ z. absurd (omega (arith, z, low w tw))))
         (λ qv b. read-set (λ y. getD marks v 0 ≡ y → v ≡ w) marks p e w lp (λ _ z. absurd (omega (arith, z, low v tv))) (λ _ z. h v w tv tw b z))
 
-  module _ (first next : List ℕ) (tidy : Tidy n arrows) (chains : Chains arrows first next (length arrows)) where
+  module _ (first next : List ℕ) (tidy : Tidy n arrows) (chains : Chains (toOf arrows) first next (length arrows)) where
     -- at a subtask that was just come to, no arrow is passed
     none-passed : (p : ℕ) → Among 1 n p → (marks : List ℕ) (k : ℕ) → k < length arrows → toOf arrows k ≡ p → getD first p 0 ≤ k → getD marks (fromOf arrows k) 0 ≡ 0
     none-passed p t marks k l e b = absurd (chains .start p (omega (arith, t .high, tidy .subtasks)) .gap k b l e)
@@ -181,6 +181,7 @@ module _ (n : ℕ) (arrows : List (List ℕ)) where
             let d0 : depth ≡ 0 = s .way .none eu .0 in
             let low : (v : ℕ) → Among 1 n v → getD marks v 0 < 2 = λ v t. omega (arith, s .way .none eu .1 v t) in
             let two : 2 ≤ 2 = omega arith in
+            let deep : 2 ≡ depth + 2 = omega (arith, d0) in
             let fewer = new-enter marks (root + 1) 2 lp isNew two root-is in
             let same = unplaced-enter marks (root + 1) 2 lp isNew two root-is in (
               record {
@@ -190,7 +191,7 @@ module _ (n : ℕ) (arrows : List (List ℕ)) where
                   climbs = λ i l. absurd (omega (arith, l, d0));
                   alone = alone-enter marks (root + 1) 2 lp isNew two (s .way .alone) low;
                   deepest = λ v t. read-set (λ x. x ≤ depth + 2) marks (root + 1) 2 v lp (λ _. omega arith) (λ _. s .way .deepest v t);
-                  end = λ _. (root-is, getD-set-same marks (root + 1) 2 0 lp ∙ omega-two depth d0);
+                  end = λ _. (root-is, getD-set-same marks (root + 1) 2 0 lp ∙ deep);
                   none = λ z. absurd (omega (arith, z));
                 };
                 passed-by = record {
@@ -208,11 +209,8 @@ module _ (n : ℕ) (arrows : List (List ℕ)) where
               },
               omega (arith, fewer, same, first-few (root + 1) root-is, root-is .high, ec),
             )
-          where
-            omega-two : (d : ℕ) → d ≡ 0 → 2 ≡ d + 2
-            omega-two d e = omega (arith, e)
-            -- all roots were tried
 
+      -- all roots were tried
       pub state-end : c ≡ 0 → u ≡ 0 → root ≡ n → Ordered n arrows row
       state-end ec eu er = record {
         long = s .rows .long;
@@ -349,18 +347,15 @@ module _ (n : ℕ) (arrows : List (List ℕ)) where
           mark-v : getD (set marks u 0) v 0 ≡ depth - 1 + 2
           mark-v = keep-low v (depth - 1 + 2) (omega (arith, nd)) (ap (λ (y : ℕ). getD marks y 0) ev ∙ top .below)
 
-          last : Last arrows (toOf arrows (a - 1)) (a - 1) (getD next (a - 1) 0)
+          last : Last (toOf arrows) (toOf arrows (a - 1)) (a - 1) (getD next (a - 1) 0)
           last = chains .step (a - 1) back-inside
 
           here-back : (k : ℕ) → k < length arrows → toOf arrows k ≡ v → getD next (a - 1) 0 ≤ k → getD (set marks u 0) (fromOf arrows k) 0 ≡ 0
-          here-back k l e b = go (side a k)
-            where
-              go : Side a k → getD (set marks u 0) (fromOf arrows k) 0 ≡ 0
-              go (passed q) =
-                  let x : toOf arrows k ≡ toOf arrows (getD stack (depth - 1) 0 - 1) = e ∙ ev ∙ ap (λ (y : ℕ). toOf arrows (y - 1)) ea in
-                  keep (fromOf arrows k) (s .passed-by .waiting (depth - 1) (omega (arith, nd)) k l x (omega (arith, q, ea)))
-              go (level q) = ap (λ (y : ℕ). getD (set marks u 0) y 0) (ap (λ (y : ℕ). fromOf arrows y) q ∙ from-u) ∙ getD-set-same marks u 0 0 lu
-              go (ahead q) = absurd (last .gap k b q (e ∙ ev))
+          here-back k l e b = passed-now a k (sym ev) last b e
+              (λ q.
+              let x : toOf arrows k ≡ toOf arrows (getD stack (depth - 1) 0 - 1) = e ∙ ev ∙ ap (λ (y : ℕ). toOf arrows (y - 1)) ea in
+              keep (fromOf arrows k) (s .passed-by .waiting (depth - 1) (omega (arith, nd)) k l x (omega (arith, q, ea))))
+              (λ q. ap (λ (y : ℕ). getD (set marks u 0) y 0) (ap (λ (y : ℕ). fromOf arrows y) q ∙ from-u) ∙ getD-set-same marks u 0 0 lu)
 
           pub state-back : State (set row m u) (set marks u 0) stack (depth - 1) (m + 1) root v (getD next (a - 1) 0)
               × (left (set marks u 0) root (getD next (a - 1) 0) < left marks root c)
@@ -441,16 +436,13 @@ module _ (n : ℕ) (arrows : List (List ℕ)) where
           omega (arith, last .within, nc),
         )
           where
-            last : Last arrows (toOf arrows (c - 1)) (c - 1) (getD next (c - 1) 0)
+            last : Last (toOf arrows) (toOf arrows (c - 1)) (c - 1) (getD next (c - 1) 0)
             last = chains .step (c - 1) at-cursor
 
             here' : (k : ℕ) → k < length arrows → toOf arrows k ≡ u → getD next (c - 1) 0 ≤ k → getD marks (fromOf arrows k) 0 ≡ 0
-            here' k l e b = go (side c k)
-              where
-                go : Side c k → getD marks (fromOf arrows k) 0 ≡ 0
-                go (passed q) = s .passed-by .here k l e q
-                go (level q) = ap (λ (y : ℕ). getD marks y 0) (ap (λ (y : ℕ). fromOf arrows y) q ∙ sym ep) ∙ z
-                go (ahead q) = absurd (last .gap k b q (e ∙ sym to-u))
+            here' k l e b = passed-now c k to-u last b e
+                (λ q. s .passed-by .here k l e q)
+                (λ q. ap (λ (y : ℕ). getD marks y 0) (ap (λ (y : ℕ). fromOf arrows y) q ∙ sym ep) ∙ z)
 
         -- p is new: the way goes on to p
         module _ (isNew : getD marks p 0 ≡ 1) where

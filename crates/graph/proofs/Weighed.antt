@@ -1,20 +1,24 @@
 -- The weights of the paths, found in an order with predecessors first, give the longest path. Assumes nothing.
 use mathlib.Core.Path.{_≡_, refl, sym, ap, _∙_}
-use mathlib.Core.Logic.{inl, inr, ⊎-elim}
+use mathlib.Core.Logic.{_⊎_, inl, inr, ⊎-elim, by-cases}
 use mathlib.Core.List.{List}
-use Prim.Native.Nat.{ℕ, _+_, _-_, _*_, _≤_, _<_}
+use Prim.Native.Nat.{ℕ, _+_, _-_, _*_, _≤_, _<_, max}
 use native.Mathlib.Omega.{arith}
-use native.Mathlib.Decide.{ℕ-discrete}
+use native.Mathlib.Decide.{ℕ-discrete, decLe}
 use lib.ListN.{length, getD, set, replicate, length-set, length-replicate, getD-replicate}
 use lib.Seq.{getD-set-same, getD-set-other}
 use borrow.Author.Count.{below-more}
 use Rattle.terms.specs.Graphs.{Among, IsSubtask, timeOf, fromOf, toOf, Precedes}
 use Rattle.terms.specs.Paths.{PathTo, alone, along, weight, IsLongest}
-use Rattle.graph.specs.Chains.{Tidy, Last, Larger}
+use Rattle.graph.specs.Chains.{Tidy, Last}
 use Rattle.graph.specs.Ordered.{Ordered}
 use Rattle.graph.specs.Latest.{Latest}
 use Rattle.graph.proofs.Stores.{read-set}
-use Rattle.graph.proofs.Chained.{Side, passed, level, ahead, side, from-small}
+use Rattle.graph.proofs.Chained.{from-small, passed-now}
+
+-- the larger of two numbers is one of them
+one-of : (a b r : ℕ) → r ≡ max a b → (r ≡ a) ⊎ (r ≡ b)
+one-of a b r e = by-cases (decLe b a) (λ l. inl (omega (arith, e, l))) (λ l. inr (omega (arith, e, l)))
 
 -- ---- along the chain of arrows into v: those from place c on are looked at
 pub record LookedAt (arrows : List (List ℕ)) (finish : List ℕ) (v c most : ℕ) : Type 0 where
@@ -22,7 +26,7 @@ pub record LookedAt (arrows : List (List ℕ)) (finish : List ℕ) (v c most : �
   pub cursor : 0 < c → toOf arrows (c - 1) ≡ v
   pub latest : Latest arrows finish v c most
 
-pub looked-start : (arrows : List (List ℕ)) (finish : List ℕ) (v x : ℕ) → Last arrows v (length arrows) x → LookedAt arrows finish v x 0
+pub looked-start : (arrows : List (List ℕ)) (finish : List ℕ) (v x : ℕ) → Last (toOf arrows) v (length arrows) x → LookedAt arrows finish v x 0
 looked-start arrows finish v x last = record {
   cap = last .within;
   cursor = last .here;
@@ -36,7 +40,7 @@ module _ (n : ℕ) (arrows : List (List ℕ)) (tidy : Tidy n arrows) (finish : L
   to-v : toOf arrows (c - 1) ≡ v
   to-v = r .cursor (omega (arith, nz))
 
-  pub looked-more : (g x : ℕ) → Larger most (getD finish p 0) g → Last arrows (toOf arrows (c - 1)) (c - 1) x → LookedAt arrows finish v x g
+  pub looked-more : (g x : ℕ) → g ≡ max most (getD finish p 0) → Last (toOf arrows) (toOf arrows (c - 1)) (c - 1) x → LookedAt arrows finish v x g
   looked-more g x big last = record {
     cap = omega (arith, last .within, r .cap);
     cursor = λ b. last .here b ∙ to-v;
@@ -45,17 +49,14 @@ module _ (n : ℕ) (arrows : List (List ℕ)) (tidy : Tidy n arrows) (finish : L
       reached = ⊎-elim
           (λ e. ⊎-elim (λ z. inl (e ∙ z)) (λ w. inr (w .0, w .1, e ∙ w .2)) (r .latest .reached))
           (λ e. inr (p, record { place = c - 1; inside = look-at; begins = sym ep; arrives = to-v }, e))
-          (big .one);
+          (one-of most (getD finish p 0) g big);
     };
   }
     where
       most' : (k : ℕ) → x ≤ k → k < length arrows → toOf arrows k ≡ v → getD finish (fromOf arrows k) 0 ≤ g
-      most' k a l e = go (side c k)
-        where
-          go : Side c k → getD finish (fromOf arrows k) 0 ≤ g
-          go (passed b) = omega (arith, r .latest .most k b l e, big .left)
-          go (level q) = omega (arith, big .right, ap (λ (y : ℕ). getD finish y 0) (ap (λ (y : ℕ). fromOf arrows y) q ∙ sym ep))
-          go (ahead b) = absurd (last .gap k a b (e ∙ sym to-v))
+      most' k a l e = passed-now c k to-v last a e
+          (λ b. omega (arith, r .latest .most k b l e, big))
+          (λ q. omega (arith, big, ap (λ (y : ℕ). getD finish y 0) (ap (λ (y : ℕ). fromOf arrows y) q ∙ sym ep)))
 
 module _ (times : List ℕ) (arrows : List (List ℕ)) (row : List ℕ) where
   -- the first j entries have the largest weight of a path that ends there
@@ -87,11 +88,11 @@ module _ (times : List ℕ) (arrows : List (List ℕ)) (row : List ℕ) where
   module _ (tidy : Tidy (length times) arrows) (order : Ordered (length times) arrows row) where
     -- the next entry, v
     module _ (finish : List ℕ) (most j : ℕ) (w : Weighed finish most j) (l : j < length times) (v : ℕ) (ev : v ≡ getD row j 0) where
-      pub entry-is : Among 1 (length times) v
+      entry-is : Among 1 (length times) v
       entry-is = rw ev (order .inside j l)
 
-      pub entry-small : (1 ≤ v) × (v < 257) × (j < 256)
-      entry-small = (entry-is .low, omega (arith, entry-is .high, tidy .subtasks), omega (arith, l, tidy .subtasks))
+      pub entry-small : v < 257
+      entry-small = omega (arith, entry-is .high, tidy .subtasks)
 
       module _ (before : ℕ) (latest : Latest arrows finish v 0 before) where
         before-small : before ≤ 65535 * j
@@ -102,7 +103,7 @@ module _ (times : List ℕ) (arrows : List (List ℕ)) (row : List ℕ) where
         time-fits = omega (arith, before-small, l, tidy .subtasks)
 
         pub weighed-more : (time : ℕ) → (IsSubtask times v → time ≡ timeOf times v) → time < 65536
-            → (most' : ℕ) → Larger most (before + time) most' → Weighed (set finish v (before + time)) most' (j + 1)
+            → (most' : ℕ) → most' ≡ max most (before + time) → Weighed (set finish v (before + time)) most' (j + 1)
         unfolding weight
         weighed-more time told short most' big = record {
           long = length-set finish v (before + time) ∙ w .long;
@@ -120,9 +121,9 @@ module _ (times : List ℕ) (arrows : List (List ℕ)) (row : List ℕ) where
               (rw (← ev) (λ k lk e. let s = order .first k lk j l (sym ev ∙ sym e) in
               omega (arith, latest .most k (omega arith) lk e, kept-at (fromOf arrows k) (s .place) (s .below) (s .is), is-new, et)));
           over = below-more (λ i. getD finish' (getD row i 0) 0 ≤ most') j
-              (λ i b. omega (arith, w .over i b, kept i b, big .left))
-              (rw (← ev) (omega (arith, is-new, big .right)));
-          reached = λ _. ⊎-elim reached-old (λ e. (j, omega arith, e ∙ sym is-new ∙ ap (λ (y : ℕ). getD finish' y 0) ev)) (big .one);
+              (λ i b. omega (arith, w .over i b, kept i b, big))
+              (rw (← ev) (omega (arith, is-new, big)));
+          reached = λ _. ⊎-elim reached-old (λ e. (j, omega arith, e ∙ sym is-new ∙ ap (λ (y : ℕ). getD finish' y 0) ev)) (one-of most (before + time) most' big);
           begins = λ e. absurd (omega (arith, e));
         }
           where
@@ -167,7 +168,7 @@ module _ (times : List ℕ) (arrows : List (List ℕ)) (row : List ℕ) where
                   where
                     last : j ≡ 0 → most' ≡ getD finish' (getD row j 0) 0
                     last z =
-                        let f : most' ≡ before + time = omega (arith, e, w .begins z, big .right) in
+                        let f : most' ≡ before + time = omega (arith, e, w .begins z, big) in
                         f ∙ sym is-new ∙ ap (λ (y : ℕ). getD finish' y 0) ev
                 go (no z) = let r = w .reached (omega (arith, z)) in (r .0, omega (arith, r .1), e ∙ r .2 ∙ sym (kept (r .0) (r .1)))
 

@@ -21,6 +21,7 @@ use terms::Refusal;
 use terms::Weights;
 ghost use mathlib.Core.Path.{_≡_};
 ghost use lib.ListN.{length, replicate};
+ghost use Rattle.terms.specs.Graphs.{toOf};
 ghost use Rattle.terms.specs.Rows.{Answered};
 ghost use Rattle.terms.specs.Refusals.{graphRows};
 ghost use Rattle.terms.specs.Replies.{IsCheck, IsMeasure, IsTotalWork, IsLongestPath};
@@ -46,13 +47,13 @@ fn wrong_ends(n: usize, arrows: &[[u16; 2]]) -> u8
 fn examine(
     times: &[u16],
     arrows: &[[u16; 2]],
-    first: &mut [u16; 257],
+    first: &mut [u32; 257],
     next: &mut [u16; 2048],
     order: &mut [u16; 256],
 ) -> u8
     requires { ⌜ (now first ≡ replicate 257 0) × (length (now next) ≡ 2048) × (length (now order) ≡ 256) ⌝ }
     ensures { λ r. ⌜ Answered (graphRows (now (times .entry)) (now (arrows .entry))) r ⌝ }
-    ensures { λ r. ⌜ (r ≡ 0 → Chains (now (arrows .entry)) (now (first .exit)) (now (next .exit)) (length (now (arrows .entry))) × Ordered (length (now (times .entry))) (now (arrows .entry)) (now (order .exit))) ⌝ }
+    ensures { λ r. ⌜ (r ≡ 0 → Chains (toOf (now (arrows .entry))) (now (first .exit)) (now (next .exit)) (length (now (arrows .entry))) × Ordered (length (now (times .entry))) (now (arrows .entry)) (now (order .exit))) ⌝ }
 {
     let n = times.len();
     if n < 1 {
@@ -84,7 +85,7 @@ fn examine(
 pub fn check(times: &[u16], arrows: &[[u16; 2]]) -> Check
     ensures { λ r. ⌜ IsCheck (graphRows (now (times .entry)) (now (arrows .entry))) r ⌝ }
 {
-    let mut first = [0u16; 257];
+    let mut first = [0u32; 257];
     let mut next = [0u16; 2048];
     let mut order = [0u16; 256];
     let number = examine(times, arrows, &mut first, &mut next, &mut order);
@@ -99,7 +100,7 @@ pub fn check(times: &[u16], arrows: &[[u16; 2]]) -> Check
 pub fn measure(times: &[u16], arrows: &[[u16; 2]]) -> Measure
     ensures { λ r. ⌜ IsMeasure (now (times .entry)) (now (arrows .entry)) r ⌝ }
 {
-    let mut first = [0u16; 257];
+    let mut first = [0u32; 257];
     let mut next = [0u16; 2048];
     let mut order = [0u16; 256];
     let number = examine(times, arrows, &mut first, &mut next, &mut order);

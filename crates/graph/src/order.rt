@@ -6,6 +6,7 @@ use lent::to_at;
 use lent::wide;
 ghost use mathlib.Core.Path.{_≡_};
 ghost use lib.ListN.{length};
+ghost use Rattle.terms.specs.Graphs.{toOf};
 ghost use Rattle.graph.specs.Chains.{Chains, Tidy};
 ghost use Rattle.graph.specs.Ordered.{Placing};
 
@@ -15,12 +16,12 @@ ghost use Rattle.graph.specs.Ordered.{Placing};
 pub fn place(
     n: usize,
     arrows: &[[u16; 2]],
-    first: &[u16; 257],
+    first: &[u32; 257],
     next: &[u16; 2048],
     order: &mut [u16; 256],
 ) -> bool
     requires { ⌜ Tidy n (now arrows) ⌝ }
-    requires { ⌜ Chains (now arrows) (now first) (now next) (length (now arrows)) ⌝ }
+    requires { ⌜ Chains (toOf (now arrows)) (now first) (now next) (length (now arrows)) ⌝ }
     requires { ⌜ length (now order) ≡ 256 ⌝ }
     ensures { λ r. ⌜ Placing n (now (arrows .entry)) (now (order .exit)) r ⌝ }
 {

@@ -8,6 +8,7 @@ use lent::wide;
 ghost use mathlib.Core.Path.{_≡_};
 ghost use Prim.Native.Nat.{_≤_};
 ghost use lib.ListN.{length, getD};
+ghost use Rattle.terms.specs.Graphs.{toOf};
 ghost use Rattle.terms.specs.Refusals.{Repeats};
 ghost use Rattle.graph.specs.First.{First, Outside, Earlier};
 ghost use Rattle.graph.specs.Faults.{FaultOf, Faults};
@@ -113,9 +114,9 @@ fn met_in(v: usize, seen: u16, met: u16) -> usize
 
 // 6: the first arrow that is the same as one before it. Along the chain of arrows into v, the latest first, met[u] is the position of the
 // arrow from u that was met last, and seen[u] the subtask in whose chain: where that is v, the arrow is the same as the present one.
-pub fn first_repeat(n: usize, arrows: &[[u16; 2]], first: &[u16; 257], next: &[u16; 2048]) -> usize
+pub fn first_repeat(n: usize, arrows: &[[u16; 2]], first: &[u32; 257], next: &[u16; 2048]) -> usize
     requires { ⌜ Tidy n (now arrows) ⌝ }
-    requires { ⌜ Chains (now arrows) (now first) (now next) (length (now arrows)) ⌝ }
+    requires { ⌜ Chains (toOf (now arrows)) (now first) (now next) (length (now arrows)) ⌝ }
     ensures { λ r. ⌜ First (length (now (arrows .entry))) (Repeats (now (arrows .entry))) r ⌝ }
 {
     let mut seen = [0u16; 257];

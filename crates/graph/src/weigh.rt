@@ -2,14 +2,16 @@
 use crate::chains::after;
 use crate::chains::source;
 use crate::chains::start_of;
+use lent::larger;
 use lent::long;
 use lent::time_of;
 use lent::wide;
 ghost use mathlib.Core.Path.{_≡_};
 ghost use Prim.Native.Nat.{_≤_, _<_};
 ghost use lib.ListN.{length};
+ghost use Rattle.terms.specs.Graphs.{toOf};
 ghost use Rattle.terms.specs.Paths.{totalWork, IsLongest};
-ghost use Rattle.graph.specs.Chains.{Chains, Tidy, Larger};
+ghost use Rattle.graph.specs.Chains.{Chains, Tidy};
 ghost use Rattle.graph.specs.Ordered.{Ordered};
 ghost use Rattle.graph.specs.Latest.{Latest};
 
@@ -27,23 +29,17 @@ pub fn total(times: &[u16]) -> u32
     sum
 }
 
-fn larger(a: u32, b: u32) -> u32
-    ensures { λ r. ⌜ Larger a b r ⌝ }
-{
-    if a < b { b } else { a }
-}
-
 // The largest finish of the subtasks from which an arrow of the chain goes to v, 0 for none.
 fn latest(
     n: usize,
     v: usize,
     arrows: &[[u16; 2]],
-    first: &[u16; 257],
+    first: &[u32; 257],
     next: &[u16; 2048],
     finish: &[u32; 257],
 ) -> u32
     requires { ⌜ Tidy n (now arrows) × (v < 257) ⌝ }
-    requires { ⌜ Chains (now arrows) (now first) (now next) (length (now arrows)) ⌝ }
+    requires { ⌜ Chains (toOf (now arrows)) (now first) (now next) (length (now arrows)) ⌝ }
     ensures { λ r. ⌜ Latest (now (arrows .entry)) (now (finish .entry)) v 0 r ⌝ }
 {
     let mut most: u32 = 0;
@@ -60,12 +56,12 @@ fn latest(
 pub fn longest(
     times: &[u16],
     arrows: &[[u16; 2]],
-    first: &[u16; 257],
+    first: &[u32; 257],
     next: &[u16; 2048],
     order: &[u16; 256],
 ) -> u32
     requires { ⌜ Tidy (length (now times)) (now arrows) × (1 ≤ length (now times)) ⌝ }
-    requires { ⌜ Chains (now arrows) (now first) (now next) (length (now arrows)) ⌝ }
+    requires { ⌜ Chains (toOf (now arrows)) (now first) (now next) (length (now arrows)) ⌝ }
     requires { ⌜ Ordered (length (now times)) (now arrows) (now order) ⌝ }
     ensures { λ r. ⌜ IsLongest (now (times .entry)) (now (arrows .entry)) r ⌝ }
 {

@@ -1,10 +1,18 @@
-// How numbers are read out of the lent rows, and the order 1..n to lend. Every place may be asked for: outside a row stands 0.
+// How numbers are read out of the lent rows, carried from width to width and compared, and the order 1..n to lend. Every place of a row may
+// be asked for: outside it stands 0.
 use terms::Arrow;
 use terms::Subtask;
 ghost use mathlib.Core.Path.{_≡_};
-ghost use Prim.Native.Nat.{ℕ, _+_, _<_};
+ghost use Prim.Native.Nat.{ℕ, _+_, _<_, max};
 ghost use lib.ListN.{length, getD};
 ghost use Rattle.terms.specs.Graphs.{IsSubtask, timeOf, fromOf, toOf};
+
+// A byte, to count and point with.
+pub fn byte(x: u8) -> usize
+    ensures { λ r. ⌜ (r ≡ x) × (r < 256) ⌝ }
+{
+    x as usize
+}
 
 // A number of 16 bits, to count and point with.
 pub fn wide(x: u16) -> usize
@@ -20,11 +28,18 @@ pub fn long(x: u16) -> u32
     x as u32
 }
 
-// A number of processors, or of one of them, to count and point with.
+// A number of 32 bits, to count and point with.
 pub fn index(x: u32) -> usize
     ensures { λ r. ⌜ r ≡ x ⌝ }
 {
     x as usize
+}
+
+// The larger of two numbers.
+pub fn larger(a: u32, b: u32) -> u32
+    ensures { λ r. ⌜ r ≡ max a b ⌝ }
+{
+    if a < b { b } else { a }
 }
 
 // The time of a subtask, and 0 for a number that is none.

@@ -8,8 +8,9 @@ use native.Mathlib.Decide.{decLe, decLt, ℕ-discrete}
 use lib.ListN.{length, getD, set, length-set}
 use Rattle.terms.specs.Graphs.{IsSubtask, fromOf, toOf}
 use Rattle.theory.proofs.ListExists.{holds}
-use Rattle.listplan.specs.Tables.{Count, LastFrom, Grouped}
-use Rattle.listplan.specs.Making.{Job, Holding, unended, uncounted, Open, Lefts, Marks, Making, NoneMarked, CountedOff}
+use Rattle.graph.specs.Chains.{Last}
+use Rattle.listplan.specs.Tables.{Count, Grouped}
+use Rattle.listplan.specs.Making.{Job, Holding, unended, uncounted, Open, Lefts, Marks, Making, NoneSo, IsMarked, CountedOff}
 use Rattle.graph.proofs.Stores.{read-set}
 use Rattle.listplan.proofs.Scanned.{marked-low}
 use Rattle.listplan.proofs.Counts.{count-same, count-less, count-none, count-some}
@@ -44,7 +45,7 @@ module _ (times : List ℕ) (arrows : List (List ℕ)) (order : List ℕ) (M : �
 
   -- c′ is the position of the arrow that comes next
   module _ (c′ : ℕ) (at : c′ ≡ getD next (c - 1) 0) where
-    last : LastFrom arrows (fromOf arrows (c - 1)) (c - 1) c′
+    last : Last (fromOf arrows) (fromOf arrows (c - 1)) (c - 1) c′
     last = rw at (job .chains .step (c - 1) inside)
 
     gone : ¬ Holding arrows P W c′ (c - 1)
@@ -121,10 +122,10 @@ module _ (times : List ℕ) (arrows : List (List ℕ)) (order : List ℕ) (M : �
           (λ d. mk .marks .marked y l (open-back (getD order y 0) d o));
     }
 
-    module _ (G L′ R′ G′ : List ℕ) (low low′ : ℕ) (off : CountedOff arrows rank L R G L′ R′ G′ (c - 1) low low′) (g : Grouped R G) (u : NoneMarked R (length order) low) where
-      marks : Marks arrows order c′ P W R′ × Grouped R′ G′ × NoneMarked R′ (length order) low′
+    module _ (G L′ R′ G′ : List ℕ) (low low′ : ℕ) (off : CountedOff arrows rank L R G L′ R′ G′ (c - 1) low low′) (g : Grouped R G) (u : NoneSo (IsMarked R) (length order) low) where
+      marks : Marks arrows order c′ P W R′ × Grouped R′ G′ × NoneSo (IsMarked R′) (length order) low′
       marks = by-cases (ℕ-discrete (getD L (toOf arrows (c - 1)) 0) 1)
-          (λ z. let r = off .marked .ifSo (omega arith) in rw (r .0, r .1, off .lower (omega arith)) (marks-last z, grouped, marked-low in-ready u))
+          (λ z. let r = off .marked .ifSo (omega arith) in rw (r .0, r .1, off .lower (omega arith)) (marks-last z, grouped, marked-low R in-ready u))
           (λ z. let none : getD L (toOf arrows (c - 1)) 0 - 1 ≢ 0 = omega (arith, left-some) in let r = off .marked .ifNot none in rw (r .0, r .1, off .kept none) (marks-more z, g, u))
         where
           grouped : Grouped (set R (getD rank (toOf arrows (c - 1)) 0) 1) (set G (getD rank (toOf arrows (c - 1)) 0 / 16) 1)
@@ -136,7 +137,7 @@ module _ (times : List ℕ) (arrows : List (List ℕ)) (order : List ℕ) (M : �
                 (λ d z. read-set (λ k. k ≢ 1) R (getD rank (toOf arrows (c - 1)) 0) 1 y in-ready (λ e. absurd (d (ap (λ (k : ℕ). k / 16) e))) (λ _. g .none y l z));
           }
 
-      pub counted : Making times arrows order M t c′ L′ R′ U W P S × Grouped R′ G′ × NoneMarked R′ (length order) low′
+      pub counted : Making times arrows order M t c′ L′ R′ U W P S × Grouped R′ G′ × NoneSo (IsMarked R′) (length order) low′
       counted = (
         record {
           sizes = mk .sizes;

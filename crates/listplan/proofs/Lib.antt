@@ -1,6 +1,6 @@
 pub mod Items
 pub mod Counts
-pub mod Chained
+pub mod Tallied
 pub mod LinedUp
 pub mod Scanned
 pub mod Countdown

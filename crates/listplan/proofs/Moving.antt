@@ -15,8 +15,9 @@ use Rattle.theory.proofs.Clock.{jump}
 use Rattle.entries.specs.Entries.{entries, itemOf}
 use Rattle.entries.proofs.Entered.{entries-processor, entries-end, entries-none}
 use Rattle.listplan.specs.Tables.{Tally, Sources, Grouped}
-use Rattle.listplan.specs.Making.{never, Job, Unended, waits, runs, Holding, unended, Making, NoneMarked, AllBusy, Soonest, FirstDue, Turn}
+use Rattle.listplan.specs.Making.{never, Job, Unended, waits, runs, Holding, unended, Making, NoneSo, FirstSo, IsMarked, IsFree, IsDue, Soonest, Turn}
 use Rattle.listplan.proofs.Items.{read-noughts}
+use Rattle.listplan.proofs.Scanned.{none-yet}
 use Rattle.listplan.proofs.Counts.{count-same, count-none, count-some}
 use Rattle.listplan.proofs.Ready.{in-range, still-there}
 
@@ -71,7 +72,7 @@ module _ (times : List ℕ) (arrows : List (List ℕ)) (order : List ℕ) (M : �
           at,
         )
 
-    pub moved : (G : List ℕ) (p′ q low : ℕ) → Grouped R G → NoneMarked R (length order) low → FirstDue U M e p′ → AllBusy W M q → Turn times arrows order M e 0 L R G U W P S p′ q low
+    pub moved : (G : List ℕ) (p′ q low : ℕ) → Grouped R G → NoneSo (IsMarked R) (length order) low → FirstSo (IsDue U e) M p′ → NoneSo (IsFree W) M q → Turn times arrows order M e 0 L R G U W P S p′ q low
     moved G p′ q low g u d a = record {
       making = record {
         sizes = mk .sizes;
@@ -172,13 +173,13 @@ pub first-turn : (times : List ℕ) (arrows : List (List ℕ)) (order : List ℕ
 first-turn times arrows order M L R G P S most mk g = record {
   making = mk;
   grouped = g;
-  unmarked = record { within = omega arith; none = λ y l. absurd (omega arith) };
+  unmarked = none-yet;
   due = record {
     before = record {
       within = omega arith;
-      later = λ k l. let e : _≡_ {A = ℕ} (getD (replicate 16 never) k 0) never = getD-replicate 16 k never 0 (omega arith) in omega arith;
+      none = λ k l. let e : _≡_ {A = ℕ} (getD (replicate 16 never) k 0) never = getD-replicate 16 k never 0 (omega arith) in omega arith;
     };
     here = λ l. absurd (omega arith);
   };
-  busy = record { within = omega arith; busy = λ k l. absurd (omega arith) };
+  busy = none-yet;
 }

@@ -11,7 +11,7 @@ use Rattle.terms.specs.ListRule.{Goes, ByRule, goes}
 use Rattle.entries.specs.Entries.{entries, itemOf, finishOf}
 use Rattle.entries.proofs.Entered.{entries-put}
 use Rattle.listplan.specs.Tables.{Grouped}
-use Rattle.listplan.specs.Making.{never, Job, Unended, waits, runs, Holding, unended, uncounted, Open, Holders, Lefts, Marks, Making, FirstMarked, FirstFree, Turn}
+use Rattle.listplan.specs.Making.{never, Job, Unended, waits, runs, Holding, unended, uncounted, Open, Holders, Lefts, Marks, Making, FirstSo, IsMarked, IsFree, Turn}
 use Rattle.graph.proofs.Stores.{read-set}
 use Rattle.listplan.proofs.Items.{item-same, item-other, finish-same, finish-other}
 use Rattle.listplan.proofs.Counts.{count-same}
@@ -21,7 +21,7 @@ use Rattle.listplan.proofs.Ready.{open-ready, is-free, is-busy, ready-o
 -- the subtask at place x of the order goes to processor q, counted from 0
 module _ (times : List ℕ) (arrows : List (List ℕ)) (order : List ℕ) (M : ℕ) (first next rank : List ℕ) (job : Job times arrows order M first next rank)
     (t : ℕ) (L R U W P S : List ℕ) (mk : Making times arrows order M t 0 L R U W P S) (later : (k : ℕ) → k < M → t < getD U k 0)
-    (x q j : ℕ) (fm : FirstMarked R (length order) x) (ff : FirstFree W M q) (inside : x < length order) (qm : q < M) (stands : j ≡ getD order x 0) where
+    (x q j : ℕ) (fm : FirstSo (IsMarked R) (length order) x) (ff : FirstSo (IsFree W) M q) (inside : x < length order) (qm : q < M) (stands : j ≡ getD order x 0) where
   s : IsSubtask times j
   s = rw stands (job .isOrder .each x inside)
 
@@ -126,7 +126,7 @@ module _ (times : List ℕ) (arrows : List (List ℕ)) (order : List ℕ) (M : �
     free = is-free times arrows order M first next rank job t 0 L R U W P S mk q nobody;
     lowest = λ p a b f.
         let e : p - 1 + 1 ≡ p = omega (arith, a .low) in
-        is-busy times arrows order M first next rank job t 0 L R U W P S mk later (p - 1) (omega (arith, a)) (ff .before .busy (p - 1) (omega (arith, a))) (rw e f);
+        is-busy times arrows order M first next rank job t 0 L R U W P S mk later (p - 1) (omega (arith, a)) (ff .before .none (p - 1) (omega (arith, a))) (rw e f);
   }
 
   made : ByRule times arrows order M t (entries P′ S′)
@@ -187,16 +187,16 @@ module _ (times : List ℕ) (arrows : List (List ℕ)) (order : List ℕ) (M : �
           po (toOf arrows a) (job .graph .named a l .1) d ∙ mk .blocked a l b;
     };
     grouped = g;
-    unmarked = unmarked-low in-ready inside (fm .before);
+    unmarked = unmarked-low R in-ready inside (fm .before);
     due = record {
       before = record {
         within = omega arith;
-        later = λ k l. read-set (λ y. t < y) U q (t + timeOf times j) k in-until (λ _. omega (arith, job .graph .positive j s)) (λ _. later k (omega arith));
+        none = λ k l. read-set (λ y. ¬ (y ≤ t)) U q (t + timeOf times j) k in-until (λ _. omega (arith, job .graph .positive j s)) (λ _. omega (arith, later k (omega arith)));
       };
       here = λ l. absurd (omega arith);
     };
     busy = record {
       within = ff .before .within;
-      busy = λ k l. read-set (λ y. 1 ≤ y) W q j k in-who (λ e. absurd (omega arith)) (λ _. ff .before .busy k l);
+      none = λ k l. read-set (λ y. y ≢ 0) W q j k in-who (λ e. absurd (omega arith)) (λ _. ff .before .none k l);
     };
   }

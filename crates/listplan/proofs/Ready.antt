@@ -1,6 +1,6 @@
 -- The tables say who is ready and which processor is free. Assumes nothing.
 use mathlib.Core.Path.{_≡_, refl, sym, ap, _∙_}
-use mathlib.Core.Logic.{_⊎_, inl, inr, by-cases}
+use mathlib.Core.Logic.{_≢_, _⊎_, inl, inr, by-cases}
 use mathlib.Core.List.{List}
 use Prim.Native.Nat.{ℕ, _+_, _-_, _≤_, _<_}
 use native.Mathlib.Omega.{arith}
@@ -13,10 +13,10 @@ use Rattle.theory.proofs.ListRule.{SoFar, by-rule}
 use Rattle.theory.proofs.ListExists.{holds}
 use Rattle.entries.specs.Entries.{entries, itemOf, finishOf}
 use Rattle.entries.proofs.Entered.{entries-processor, entries-start, entries-end}
-use Rattle.listplan.specs.Making.{Job, Unended, waits, runs, Holding, unended, uncounted, Open, Making, ToGo, FirstFree}
+use Rattle.listplan.specs.Making.{Job, Unended, waits, runs, Holding, unended, uncounted, Open, Making, FirstSo, IsFree, ToGo}
 
 -- what has ended has gone
-pub ended-placed : (P W : List ℕ) (j : ℕ) → ¬ Unended P W j → 1 ≤ itemOf P j
+ended-placed : (P W : List ℕ) (j : ℕ) → ¬ Unended P W j → 1 ≤ itemOf P j
 ended-placed P W j h = by-cases (decLe 1 (itemOf P j)) (λ l. l) (λ l. absurd (h (waits (omega arith))))
 
 module _ (times : List ℕ) (arrows : List (List ℕ)) (order : List ℕ) (M : ℕ) (first next rank : List ℕ) (job : Job times arrows order M first next rank)
@@ -60,9 +60,9 @@ module _ (times : List ℕ) (arrows : List (List ℕ)) (order : List ℕ) (M : �
 
   -- where nothing more ends at t
   module _ (later : (k : ℕ) → k < M → t < getD U k 0) where
-    pub is-busy : (p : ℕ) → p < M → 1 ≤ getD W p 0 → ¬ FreeAt times (entries P S) (p + 1) t
+    pub is-busy : (p : ℕ) → p < M → getD W p 0 ≢ 0 → ¬ FreeAt times (entries P S) (p + 1) t
     is-busy p l b f =
-        let h = mk .holders .holder p l b in
+        let h = mk .holders .holder p l (omega (arith, b)) in
         let k = getD W p 0 in
         f k (h .0) (entries-processor times P S eq k ∙ h .1) (record {
           placed = omega (arith, h .1, entries-processor times P S eq k);
@@ -90,7 +90,7 @@ module _ (times : List ℕ) (arrows : List (List ℕ)) (order : List ℕ) (M : �
                 omega (arith, d .1, entries-end times P S eq i, still-there i q b y, later (itemOf P i - 1) (in-range i q b))
 
     -- the two ways in which nothing can go
-    pub still : c ≡ 0 → (x q : ℕ) → ToGo R M q (length order) x → FirstFree W M q → length order ≤ x → ¬ IdleAt times arrows M (entries P S) t
+    pub still : c ≡ 0 → (x q : ℕ) → ToGo R M q (length order) x → FirstSo (IsFree W) M q → length order ≤ x → ¬ IdleAt times arrows M (entries P S) t
     still z x q go ff h d = by-cases (decLt q M)
         (λ l.
         let y = holds times order (job .isOrder) (d .subtask) (d .isSubtask) in
@@ -99,4 +99,4 @@ module _ (times : List ℕ) (arrows : List (List ℕ)) (order : List ℕ) (M : �
         (λ l.
         let k = d .processor - 1 in
         let e : d .processor - 1 + 1 ≡ d .processor = omega (arith, d .inRange .low) in
-        is-busy k (omega (arith, d .inRange)) (ff .before .busy k (omega (arith, d .inRange))) (rw e (d .free)))
+        is-busy k (omega (arith, d .inRange)) (ff .before .none k (omega (arith, d .inRange))) (rw e (d .free)))

@@ -8,9 +8,11 @@ use native.Mathlib.Decide.{decLe, decLt, ℕ-discrete}
 use lib.ListN.{length, getD, set, length-set}
 use Rattle.terms.specs.Graphs.{IsSubtask, fromOf}
 use Rattle.entries.specs.Entries.{itemOf, finishOf}
-use Rattle.listplan.specs.Tables.{LastFrom, Grouped}
-use Rattle.listplan.specs.Making.{never, Job, Unended, waits, runs, Holding, unended, uncounted, Making, NoneMarked, NoneDue, FirstDue, Turn}
+use Rattle.graph.specs.Chains.{Last}
+use Rattle.listplan.specs.Tables.{Grouped}
+use Rattle.listplan.specs.Making.{never, Job, Unended, waits, runs, Holding, unended, uncounted, Making, NoneSo, FirstSo, IsMarked, IsDue, Turn}
 use Rattle.graph.proofs.Stores.{read-set}
+use Rattle.listplan.proofs.Scanned.{none-yet}
 use Rattle.listplan.proofs.Counts.{count-same}
 
 module _ (times : List ℕ) (arrows : List (List ℕ)) (order : List ℕ) (M : ℕ) (first next rank : List ℕ) (job : Job times arrows order M first next rank)
@@ -55,15 +57,15 @@ module _ (times : List ℕ) (arrows : List (List ℕ)) (order : List ℕ) (M : �
   gone (runs z) = read-set (λ y. y ≢ getD W p 0) W p 0 (itemOf P (getD W p 0) - 1) in-who (λ _ e. omega (arith, somebody)) (λ h. absurd (h (omega (arith, holder .1)))) z
 
   -- the next one with an end by t is further up
-  pub due-after : FirstDue U M t p → NoneDue U′ M t (p + 1)
+  pub due-after : FirstSo (IsDue U t) M p → NoneSo (IsDue U′ t) M (p + 1)
   due-after d = record {
     within = omega arith;
-    later = λ k l. read-set (λ y. t < y) U p never k in-until (λ _. omega (arith, mk .early, job .work)) (λ h. d .before .later k (omega arith));
+    none = λ k l. read-set (λ y. ¬ (y ≤ t)) U p never k in-until (λ _. omega (arith, mk .early, job .work)) (λ h. d .before .none k (omega arith));
   }
 
   -- c is the position of its last arrow
   module _ (c : ℕ) (at : c ≡ getD first (getD W p 0) 0) where
-    last : LastFrom arrows (getD W p 0) (length arrows) c
+    last : Last (fromOf arrows) (getD W p 0) (length arrows) c
     last = rw at (job .chains .start (getD W p 0) who-small)
 
     keep : (a : ℕ) → a < length arrows → Holding arrows P W 0 a → Holding arrows P W′ c a
@@ -78,7 +80,7 @@ module _ (times : List ℕ) (arrows : List (List ℕ)) (order : List ℕ) (M : �
     back a l (unended u) = unended (unended-back (fromOf arrows a) (job .graph .named a l .0) u)
     back a l (uncounted m e) = unended (rw (e ∙ last .here (omega arith)) there)
 
-    pub released : (G : List ℕ) (p′ low : ℕ) → Grouped R G → NoneMarked R (length order) low → FirstDue U′ M t p′ → Turn times arrows order M t c L R G U′ W′ P S p′ 0 low
+    pub released : (G : List ℕ) (p′ low : ℕ) → Grouped R G → NoneSo (IsMarked R) (length order) low → FirstSo (IsDue U′ t) M p′ → Turn times arrows order M t c L R G U′ W′ P S p′ 0 low
     released G p′ low g u o = record {
       making = record {
         sizes = mk .sizes;
@@ -115,5 +117,5 @@ module _ (times : List ℕ) (arrows : List (List ℕ)) (order : List ℕ) (M : �
       grouped = g;
       unmarked = u;
       due = o;
-      busy = record { within = omega arith; busy = λ k l. absurd (omega arith) };
+      busy = none-yet;
     }

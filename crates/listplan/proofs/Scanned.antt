@@ -6,9 +6,24 @@ use Prim.Native.Nat.{ℕ, _+_, _*_, _/_, _≤_, _<_, min}
 use native.Mathlib.Omega.{arith}
 use native.Mathlib.Decide.{decLe, ℕ-discrete}
 use lib.ListN.{length, getD, set, length-set}
+use borrow.Author.Count.{below-more}
 use Rattle.graph.proofs.Stores.{read-set}
 use Rattle.listplan.specs.Tables.{Grouped}
-use Rattle.listplan.specs.Making.{never, NoneMarked, FirstMarked, AllBusy, FirstFree, Soonest, NoneDue, FirstDue}
+use Rattle.listplan.specs.Making.{never, NoneSo, FirstSo, IsMarked, Soonest}
+
+-- ---- whatever is looked for
+
+pub none-yet : {IsSo : ℕ → Type 0} {n : ℕ} → NoneSo IsSo n 0
+none-yet = record { within = omega arith; none = λ y l. absurd (omega arith) }
+
+pub none-more : {IsSo : ℕ → Type 0} {n x : ℕ} → NoneSo IsSo n x → x < n → ¬ IsSo x → NoneSo IsSo n (x + 1)
+none-more {IsSo} {n} {x} h l d = record { within = omega arith; none = below-more (λ y. ¬ IsSo y) x (h .none) d }
+
+pub first-here : {IsSo : ℕ → Type 0} {n x : ℕ} → NoneSo IsSo n x → IsSo x → FirstSo IsSo n x
+first-here h e = record { before = h; here = λ _. e }
+
+pub first-none : {IsSo : ℕ → Type 0} {n x : ℕ} → NoneSo IsSo n x → n ≤ x → FirstSo IsSo n x
+first-none h l = record { before = h; here = λ m. absurd (omega arith) }
 
 -- ---- the places of the order
 
@@ -16,7 +31,7 @@ use Rattle.listplan.specs.Making.{never, NoneMarked, FirstMarked, AllBus
 pub record Passed (R : List ℕ) (x : ℕ) : Type 0 where
   pub none : (y : ℕ) → y < x → y < 256 → getD R y 0 ≢ 1
 
-pub passed-low : {R : List ℕ} {n low : ℕ} → NoneMarked R n low → Passed R low
+pub passed-low : {R : List ℕ} {n low : ℕ} → NoneSo (IsMarked R) n low → Passed R low
 passed-low h = record { none = λ y l _. h .none y l }
 
 pub passed-more : {R : List ℕ} {x : ℕ} → Passed R x → getD R x 0 ≢ 1 → Passed R (x + 1)
@@ -29,22 +44,22 @@ passed-group {R} {G} {x} g h z = record {
       (λ b. h .none y (omega arith) m);
 }
 
-pub first-marked-here : {R : List ℕ} {n x : ℕ} → n ≤ 256 → x < n → Passed R x → getD R x 0 ≡ 1 → FirstMarked R n x
+pub first-marked-here : {R : List ℕ} {n x : ℕ} → n ≤ 256 → x < n → Passed R x → getD R x 0 ≡ 1 → FirstSo (IsMarked R) n x
 first-marked-here b l h e = record { before = record { within = omega arith; none = λ y m. h .none y m (omega arith) }; here = λ _. e }
 
-pub first-marked-none : {R : List ℕ} {n x : ℕ} → n ≤ 256 → n ≤ x → Passed R x → FirstMarked R n n
+pub first-marked-none : {R : List ℕ} {n x : ℕ} → n ≤ 256 → n ≤ x → Passed R x → FirstSo (IsMarked R) n n
 first-marked-none b l h = record { before = record { within = omega arith; none = λ y m. h .none y (omega arith) (omega arith) }; here = λ m. absurd (omega arith) }
 
 -- place x is marked
-pub marked-low : {R : List ℕ} {n low x : ℕ} → x < length R → NoneMarked R n low → NoneMarked (set R x 1) n (min low x)
-marked-low {R} {n} {low} {x} l h = record {
+pub marked-low : (R : List ℕ) {n low x : ℕ} → x < length R → NoneSo (IsMarked R) n low → NoneSo (IsMarked (set R x 1)) n (min low x)
+marked-low R {n} {low} {x} l h = record {
   within = omega (arith, h .within);
   none = λ y m. read-set (λ k. k ≢ 1) R x 1 y l (λ e. absurd (omega arith)) (λ _. h .none y (omega arith));
 }
 
 -- the mark of the first place that has one was taken off
-pub unmarked-low : {R : List ℕ} {n x : ℕ} → x < length R → x < n → NoneMarked R n x → NoneMarked (set R x 0) n (x + 1)
-unmarked-low {R} {n} {x} l b h = record {
+pub unmarked-low : (R : List ℕ) {n x : ℕ} → x < length R → x < n → NoneSo (IsMarked R) n x → NoneSo (IsMarked (set R x 0)) n (x + 1)
+unmarked-low R {n} {x} l b h = record {
   within = omega arith;
   none = λ y m. read-set (λ k. k ≢ 1) R x 0 y l (λ _ f. omega arith) (λ d. h .none y (omega arith));
 }
@@ -78,7 +93,7 @@ module _ (R G : List ℕ) (x : ℕ) (l : x < 256) (e : length R ≡ 256) (g : Gr
   unmarked-more = record { long = g .long; none = λ z m q. fewer z (g .none z m q) }
 
   -- it has none
-  pub unmarked-last : (y : ℕ) → NoneMarked R 256 x → Unmarking (set R x 0) x y → x / 16 * 16 + 16 ≤ y → Grouped (set R x 0) (set G (x / 16) 0)
+  pub unmarked-last : (y : ℕ) → NoneSo (IsMarked R) 256 x → Unmarking (set R x 0) x y → x / 16 * 16 + 16 ≤ y → Grouped (set R x 0) (set G (x / 16) 0)
   unmarked-last y before u m = record {
     long = length-set G (x / 16) 0 ∙ g .long;
     none = λ z b. read-set (λ k. k ≡ 0 → getD (set R x 0) z 0 ≢ 1) G (x / 16) 0 (z / 16) (omega (arith, g .long))
@@ -93,18 +108,6 @@ module _ (R G : List ℕ) (x : ℕ) (l : x < 256) (e : length R ≡ 256) (g : Gr
 
 -- ---- the processors
 
-pub all-busy-more : {W : List ℕ} {M q : ℕ} → AllBusy W M q → q < M → getD W q 0 ≢ 0 → AllBusy W M (q + 1)
-all-busy-more {W} {M} {q} h l d = record {
-  within = omega arith;
-  busy = λ k m. by-cases (ℕ-discrete k q) (λ e. rw e (omega arith)) (λ e. h .busy k (omega arith));
-}
-
-pub first-free-here : {W : List ℕ} {M q : ℕ} → AllBusy W M q → getD W q 0 ≡ 0 → FirstFree W M q
-first-free-here h e = record { before = h; here = λ _. e }
-
-pub first-free-none : {W : List ℕ} {M q : ℕ} → AllBusy W M q → M ≤ q → FirstFree W M q
-first-free-none h l = record { before = h; here = λ m. absurd (omega arith) }
-
 -- the soonest of the first k
 pub soonest-none : (U : List ℕ) → Soonest U 0 never
 soonest-none U = record { least = λ k l. absurd (omega arith); reached = λ h. absurd (h refl) }
@@ -116,15 +119,3 @@ soonest-more {U} {k} {e} {f} h m = record {
       (λ l. let same : f ≡ e = omega arith in let r = h .reached (λ q. n (same ∙ q)) in (r .0, omega (arith, r .1), r .2 ∙ sym same))
       (λ l. (k, omega arith, omega arith));
 }
-
-pub none-due-more : {U : List ℕ} {M t p : ℕ} → NoneDue U M t p → p < M → t < getD U p 0 → NoneDue U M t (p + 1)
-none-due-more {U} {M} {t} {p} h l d = record {
-  within = omega arith;
-  later = λ k m. by-cases (ℕ-discrete k p) (λ e. rw e d) (λ e. h .later k (omega arith));
-}
-
-pub first-due-here : {U : List ℕ} {M t p : ℕ} → NoneDue U M t p → getD U p 0 ≤ t → FirstDue U M t p
-first-due-here h e = record { before = h; here = λ _. e }
-
-pub first-due-none : {U : List ℕ} {M t p : ℕ} → NoneDue U M t p → M ≤ p → FirstDue U M t p
-first-due-none h l = record { before = h; here = λ m. absurd (omega arith) }

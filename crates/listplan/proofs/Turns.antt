@@ -12,7 +12,7 @@ use Rattle.terms.specs.Plans.{IdleAt}
 use Rattle.terms.specs.ListRule.{IsListPlan}
 use Rattle.entries.specs.Entries.{entries, itemOf}
 use Rattle.listplan.specs.Tables.{Grouped}
-use Rattle.listplan.specs.Making.{never, Job, Making, NoneMarked, ToGo, FirstFree, Soonest, NoneDue, FirstDue, Turn, CountedOff}
+use Rattle.listplan.specs.Making.{never, Job, Making, NoneSo, FirstSo, IsMarked, IsFree, IsDue, ToGo, Soonest, Turn, CountedOff}
 use Rattle.listplan.proofs.Counts.{noughts, noughts-most, noughts-filled, noughts-emptied, total-set}
 use Rattle.listplan.proofs.Ready.{still}
 use Rattle.listplan.proofs.Placing.{placed, opened}
@@ -62,10 +62,10 @@ module _ (times : List ℕ) (arrows : List (List ℕ)) (order : List ℕ) (M : �
       pub holder-small : (i : ℕ) → i ≡ getD W p 0 → i < 257
       holder-small i d = rw d (who-small times arrows order M first next rank job t L R U W P S mk p pm due)
 
-      pub next-due : NoneDue (set U p never) M t (p + 1)
+      pub next-due : NoneSo (IsDue (set U p never) t) M (p + 1)
       next-due = due-after times arrows order M first next rank job t L R U W P S mk p pm due (turn .due)
 
-      pub turn-released : (i c′ p′ : ℕ) → i ≡ getD W p 0 → c′ ≡ getD first i 0 → FirstDue (set U p never) M t p′
+      pub turn-released : (i c′ p′ : ℕ) → i ≡ getD W p 0 → c′ ≡ getD first i 0 → FirstSo (IsDue (set U p never) t) M p′
           → Turn times arrows order M t c′ L R G (set U p never) (set W p 0) P S p′ 0 low × (toDo times t L (set W p 0) P < toDo times t L W P)
       unfolding toDo
       turn-released i c′ p′ d e o =
@@ -76,15 +76,15 @@ module _ (times : List ℕ) (arrows : List (List ℕ)) (order : List ℕ) (M : �
           )
 
     -- none ends
-    module _ (pm : M ≤ p) (x q′ : ℕ) (go : ToGo R M q′ (length order) x) (ff : FirstFree W M q′) where
+    module _ (pm : M ≤ p) (x q′ : ℕ) (go : ToGo R M q′ (length order) x) (ff : FirstSo (IsFree W) M q′) where
       all : p ≡ M
       all = omega (arith, turn .due .before .within)
 
       later : (k : ℕ) → k < M → t < getD U k 0
-      later k l = turn .due .before .later k (omega (arith, all))
+      later k l = omega (arith, turn .due .before .none k (omega (arith, all)))
 
       -- where a subtask goes there is a processor
-      pub free : x < length order → q′ < M
+      free : x < length order → q′ < M
       free l = by-cases (decLt q′ M) (λ m. m) (λ m. absurd (omega (arith, go .none (omega arith))))
 
       pub turn-placed : (j : ℕ) (R′ G′ P′ S′ U′ W′ : List ℕ) → (R′ ≡ set R x 0) × Grouped R′ G′ → x < length order → j ≡ getD order x 0
@@ -102,15 +102,15 @@ module _ (times : List ℕ) (arrows : List (List ℕ)) (order : List ℕ) (M : �
             omega (arith, np, nw, noughts-most W, mk .holders .long-who),
           )
 
-      -- the mark that is taken off is the first one
-      pub unmarks : x < length order → NoneMarked R 256 x
-      unmarks l = record { within = omega (arith, job .isOrder .whole, job .graph .count .high); none = go .first (free l) .before .none }
+      -- it is in the table, and the mark that is taken off is the first one
+      pub goes : x < length order → (q′ < 16) × NoneSo (IsMarked R) 256 x
+      goes l = (omega (arith, free l, job .processors .high), record { within = omega (arith, job .isOrder .whole, job .graph .count .high); none = go .first (free l) .before .none })
 
       module _ (h : length order ≤ x) (e : ℕ) (o : Soonest U M e) where
         quiet : ¬ IdleAt times arrows M (entries P S) t
         quiet = still times arrows order M first next rank job t 0 L R U W P S mk later refl x q′ go ff h
 
-        pub turn-moved : (p′ : ℕ) → e ≢ never → FirstDue U M e p′ → Turn times arrows order M e c L R G U W P S p′ q′ low × (toDo times e L W P < toDo times t L W P)
+        pub turn-moved : (p′ : ℕ) → e ≢ never → FirstSo (IsDue U e) M p′ → Turn times arrows order M e c L R G U W P S p′ q′ low × (toDo times e L W P < toDo times t L W P)
         unfolding toDo
         turn-moved p′ d f = rw none (
           moved times arrows order M first next rank job t L R U W P S mk later quiet e o d G p′ q′ low (turn .grouped) (turn .unmarked) f (ff .before),

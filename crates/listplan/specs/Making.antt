@@ -10,7 +10,8 @@ use Rattle.terms.specs.Paths.{totalWork}
 use Rattle.terms.specs.ListRule.{IsOrder, ByRule}
 use Rattle.theory.specs.Sound.{SoundGraph}
 use Rattle.entries.specs.Entries.{entries, itemOf, finishOf}
-use Rattle.listplan.specs.Tables.{Count, Chains, Ranks, Grouped, MarkedIf}
+use Rattle.graph.specs.Chains.{Chains}
+use Rattle.listplan.specs.Tables.{Count, Ranks, Grouped, MarkedIf}
 
 -- the end of a processor that nobody is on
 abbrev pub never : ℕ
@@ -22,7 +23,7 @@ pub record Job (times : List ℕ) (arrows : List (List ℕ)) (order : List ℕ) 
   pub processors : Among 1 16 M
   pub isOrder : IsOrder times order
   pub work : totalWork times ≤ 16776960
-  pub chains : Chains arrows first next (length arrows)
+  pub chains : Chains (fromOf arrows) first next (length arrows)
   pub ranks : Ranks order rank (length order)
 
 -- subtask j has not gone, or is still on its processor
@@ -82,53 +83,45 @@ pub record Making (times : List ℕ) (arrows : List (List ℕ)) (order : List �
   pub cursor : Cursor arrows c P W
   pub blocked : (a : ℕ) → a < length arrows → Holding arrows P W c a → itemOf P (toOf arrows a) ≡ 0
 
--- no place below x is marked
-pub record NoneMarked (R : List ℕ) (n x : ℕ) : Type 0 where
+-- no place below x, which is at most n, is so
+pub record NoneSo (IsSo : ℕ → Type 0) (n x : ℕ) : Type 0 where
   pub within : x ≤ n
-  pub none : (y : ℕ) → y < x → getD R y 0 ≢ 1
+  pub none : (y : ℕ) → y < x → ¬ IsSo y
 
--- x is the first place that is marked, or n
-pub record FirstMarked (R : List ℕ) (n x : ℕ) : Type 0 where
-  pub before : NoneMarked R n x
-  pub here : x < n → getD R x 0 ≡ 1
+-- x is the first place that is so, or n
+pub record FirstSo (IsSo : ℕ → Type 0) (n x : ℕ) : Type 0 where
+  pub before : NoneSo IsSo n x
+  pub here : x < n → IsSo x
+
+-- place x of the order is marked
+abbrev pub IsMarked : List ℕ → ℕ → Type 0
+IsMarked R x = getD R x 0 ≡ 1
+
+-- nobody is on processor q, counted from 0
+abbrev pub IsFree : List ℕ → ℕ → Type 0
+IsFree W q = getD W q 0 ≡ 0
+
+-- processor p, counted from 0, has an end by t
+abbrev pub IsDue : List ℕ → ℕ → ℕ → Type 0
+IsDue U t p = getD U p 0 ≤ t
 
 -- where a processor is free, x is the first place that is marked; n where there is no such place or no free processor
 pub record ToGo (R : List ℕ) (M q n x : ℕ) : Type 0 where
-  pub first : q < M → FirstMarked R n x
+  pub first : q < M → FirstSo (IsMarked R) n x
   pub none : M ≤ q → x ≡ n
-
--- somebody is on each processor below q, counted from 0
-pub record AllBusy (W : List ℕ) (M q : ℕ) : Type 0 where
-  pub within : q ≤ M
-  pub busy : (k : ℕ) → k < q → 1 ≤ getD W k 0
-
--- q is the first processor that nobody is on, or M
-pub record FirstFree (W : List ℕ) (M q : ℕ) : Type 0 where
-  pub before : AllBusy W M q
-  pub here : q < M → getD W q 0 ≡ 0
 
 -- e is the soonest end, and `never` where nobody is on a processor
 pub record Soonest (U : List ℕ) (M e : ℕ) : Type 0 where
   pub least : (k : ℕ) → k < M → e ≤ getD U k 0
   pub reached : e ≢ never → (k : ℕ) × (k < M) × (getD U k 0 ≡ e)
 
--- no processor below p has an end by t
-pub record NoneDue (U : List ℕ) (M t p : ℕ) : Type 0 where
-  pub within : p ≤ M
-  pub later : (k : ℕ) → k < p → t < getD U k 0
-
--- p is the first processor with an end by t, or M
-pub record FirstDue (U : List ℕ) (M t p : ℕ) : Type 0 where
-  pub before : NoneDue U M t p
-  pub here : p < M → getD U p 0 ≤ t
-
 -- what holds at each turn of the loop that makes the plan
 pub record Turn (times : List ℕ) (arrows : List (List ℕ)) (order : List ℕ) (M t c : ℕ) (L R G U W P S : List ℕ) (p q low : ℕ) : Type 0 where
   pub making : Making times arrows order M t c L R U W P S
   pub grouped : Grouped R G
-  pub unmarked : NoneMarked R (length order) low
-  pub due : FirstDue U M t p
-  pub busy : AllBusy W M q
+  pub unmarked : NoneSo (IsMarked R) (length order) low
+  pub due : FirstSo (IsDue U t) M p
+  pub busy : NoneSo (IsFree W) M q
 
 -- The arrow at place a is counted off: one fewer holds its `to` back, and where it was the last one, the place of `to` in the order is marked.
 -- low′ is the smaller of low and the place that was marked.

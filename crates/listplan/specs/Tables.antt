@@ -1,4 +1,4 @@
--- The tables that are made once for a list plan: the arrows as chains, how many arrows go to each subtask, and where each stands in the order.
+-- The tables that are made once for a list plan, beside the chains: how many arrows go to each subtask, and where each stands in the order.
 use mathlib.Core.Path.{_≡_}
 use mathlib.Core.Logic.{_≢_, _⊎_}
 use mathlib.Core.List.{List}
@@ -16,19 +16,6 @@ pub record Roomy (arrows : List (List ℕ)) : Type 0 where
   pub few : length arrows ≤ 2048
   pub from-small : (a : ℕ) → a < length arrows → fromOf arrows a < 257
   pub to-small : (a : ℕ) → a < length arrows → toOf arrows a < 257
-
--- x is the position, counted from 1, of the last arrow from u among those below b, and 0 where there is none
-pub record LastFrom (arrows : List (List ℕ)) (u b x : ℕ) : Type 0 where
-  pub within : x ≤ b
-  pub gap : (a : ℕ) → x ≤ a → a < b → fromOf arrows a ≢ u
-  pub here : 0 < x → fromOf arrows (x - 1) ≡ u
-
--- the chains of the arrows below b, one for each subtask that they come from
-pub record Chains (arrows : List (List ℕ)) (first next : List ℕ) (b : ℕ) : Type 0 where
-  pub long-first : length first ≡ 257
-  pub long-next : length next ≡ 2048
-  pub start : (u : ℕ) → u < 257 → LastFrom arrows u b (getD first u 0)
-  pub step : (a : ℕ) → a < b → LastFrom arrows (fromOf arrows a) a (getD next a 0)
 
 -- how many of the arrows below b go to each subtask
 pub record Tally (arrows : List (List ℕ)) (left : List ℕ) (b : ℕ) : Type 0 where

@@ -5,7 +5,9 @@ use lent::to_at;
 ghost use mathlib.Core.Path.{_≡_};
 ghost use Prim.Native.Nat.{_<_};
 ghost use lib.ListN.{length, replicate};
-ghost use Rattle.listplan.specs.Tables.{Roomy, Chains, Tally, Distinct, Ranks, Grouped, MarkedIf, Sources};
+ghost use Rattle.terms.specs.Graphs.{fromOf};
+ghost use Rattle.graph.specs.Chains.{Chains};
+ghost use Rattle.listplan.specs.Tables.{Roomy, Tally, Distinct, Ranks, Grouped, MarkedIf, Sources};
 
 // For each subtask the chain of the arrows from it, the latest first: `first` holds the position of that one, `next` of the one before
 // it. And how many arrows go to each subtask.
@@ -17,7 +19,7 @@ pub fn chain(
 )
     requires { ⌜ Roomy (now arrows) ⌝ }
     requires { ⌜ (now first ≡ replicate 257 0) × (length (now next) ≡ 2048) × (now left ≡ replicate 257 0) ⌝ }
-    ensures { λ _. ⌜ Chains (now (arrows .entry)) (now (first .exit)) (now (next .exit)) (length (now (arrows .entry))) ⌝ }
+    ensures { λ _. ⌜ Chains (fromOf (now (arrows .entry))) (now (first .exit)) (now (next .exit)) (length (now (arrows .entry))) ⌝ }
     ensures { λ _. ⌜ Tally (now (arrows .entry)) (now (left .exit)) (length (now (arrows .entry))) ⌝ }
 {
     let mut i: usize = 0;

@@ -7,7 +7,7 @@ ghost use Prim.Native.Nat.{_≤_, _<_, min};
 ghost use lib.ListN.{length, set};
 ghost use Rattle.terms.specs.Graphs.{Among};
 ghost use Rattle.listplan.specs.Tables.{Grouped};
-ghost use Rattle.listplan.specs.Making.{NoneMarked, FirstMarked, ToGo, AllBusy, FirstFree, Soonest, NoneDue, FirstDue};
+ghost use Rattle.listplan.specs.Making.{NoneSo, FirstSo, IsMarked, IsFree, IsDue, ToGo, Soonest};
 
 // The sooner of two ends.
 fn sooner(a: u32, b: u32) -> u32
@@ -32,8 +32,8 @@ pub fn soonest(until: &[u32; 16], m: usize) -> u32
 
 // The first processor, counted from 0, with an end by t; m where there is none. Those below `from` are known to end later.
 pub fn first_due(until: &[u32; 16], m: usize, t: u32, from: usize) -> usize
-    requires { ⌜ Among 1 16 m × (length (now until) ≡ 16) × NoneDue (now until) m t from ⌝ }
-    ensures { λ r. ⌜ FirstDue (now (until .entry)) m t r ⌝ }
+    requires { ⌜ Among 1 16 m × (length (now until) ≡ 16) × NoneSo (IsDue (now until) t) m from ⌝ }
+    ensures { λ r. ⌜ FirstSo (IsDue (now (until .entry)) t) m r ⌝ }
 {
     let mut p = from;
     while p < m {
@@ -47,8 +47,8 @@ pub fn first_due(until: &[u32; 16], m: usize, t: u32, from: usize) -> usize
 
 // The first processor, counted from 0, that nobody is on; m where there is none. Those below `from` are known to be busy.
 pub fn first_free(who: &[u16; 16], m: usize, from: usize) -> usize
-    requires { ⌜ Among 1 16 m × (length (now who) ≡ 16) × AllBusy (now who) m from ⌝ }
-    ensures { λ r. ⌜ FirstFree (now (who .entry)) m r ⌝ }
+    requires { ⌜ Among 1 16 m × (length (now who) ≡ 16) × NoneSo (IsFree (now who)) m from ⌝ }
+    ensures { λ r. ⌜ FirstSo (IsFree (now (who .entry))) m r ⌝ }
 {
     let mut q = from;
     while q < m {
@@ -63,8 +63,8 @@ pub fn first_free(who: &[u16; 16], m: usize, from: usize) -> usize
 // The first place of the order that is marked; n where there is none. Those below `low` are known not to be; groups of sixteen places with
 // a 0 are passed over.
 fn first_marked(ready: &[u8; 256], groups: &[u8; 16], low: usize, n: usize) -> usize
-    requires { ⌜ (n ≤ 256) × (length (now ready) ≡ 256) × Grouped (now ready) (now groups) × NoneMarked (now ready) n low ⌝ }
-    ensures { λ r. ⌜ FirstMarked (now (ready .entry)) n r ⌝ }
+    requires { ⌜ (n ≤ 256) × (length (now ready) ≡ 256) × Grouped (now ready) (now groups) × NoneSo (IsMarked (now ready)) n low ⌝ }
+    ensures { λ r. ⌜ FirstSo (IsMarked (now (ready .entry))) n r ⌝ }
 {
     let mut x = low;
     while x < n {
@@ -88,7 +88,7 @@ pub fn next_to_go(
     q: usize,
     m: usize,
 ) -> usize
-    requires { ⌜ (n ≤ 256) × (length (now ready) ≡ 256) × Grouped (now ready) (now groups) × NoneMarked (now ready) n low ⌝ }
+    requires { ⌜ (n ≤ 256) × (length (now ready) ≡ 256) × Grouped (now ready) (now groups) × NoneSo (IsMarked (now ready)) n low ⌝ }
     ensures { λ r. ⌜ ToGo (now (ready .entry)) m q n r ⌝ }
 {
     if m <= q {
@@ -99,7 +99,7 @@ pub fn next_to_go(
 
 // Takes the mark off the first place that has one.
 pub fn unmark(ready: &mut [u8; 256], groups: &mut [u8; 16], x: usize)
-    requires { ⌜ (x < 256) × (length (now ready) ≡ 256) × Grouped (now ready) (now groups) × NoneMarked (now ready) 256 x ⌝ }
+    requires { ⌜ (x < 256) × (length (now ready) ≡ 256) × Grouped (now ready) (now groups) × NoneSo (IsMarked (now ready)) 256 x ⌝ }
     ensures { λ _. ⌜ (now (ready .exit) ≡ set (now (ready .entry)) x 0) × Grouped (now (ready .exit)) (now (groups .exit)) ⌝ }
 {
     ready[x] = 0;

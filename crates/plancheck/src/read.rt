@@ -1,4 +1,5 @@
 // How numbers are read out of the rows.
+use lent::byte;
 use lent::time_of;
 ghost use mathlib.Core.Path.{_≡_};
 ghost use Prim.Native.Nat.{_≤_};
@@ -7,14 +8,8 @@ ghost use Rattle.terms.specs.Graphs.{IsSubtask};
 ghost use Rattle.entries.specs.Entries.{itemOf, finishOf};
 ghost use Rattle.plancheck.specs.Known.{Timed};
 
-fn byte(x: u8) -> u32
-    ensures { λ r. ⌜ r ≡ x ⌝ }
-{
-    x as u32
-}
-
 // The processor, the start and the end of subtask j.
-pub fn processor_of(procs: &[u8], j: usize) -> u32
+pub fn processor_of(procs: &[u8], j: usize) -> usize
     requires { ⌜ (1 ≤ j) × (j ≤ length (now procs)) ⌝ }
     ensures { λ r. ⌜ r ≡ itemOf (now (procs .entry)) j ⌝ }
 {

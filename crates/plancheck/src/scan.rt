@@ -3,10 +3,12 @@ use crate::read::end_of;
 use crate::read::processor_of;
 use crate::read::start_of;
 use lent::from_at;
+use lent::index;
+use lent::larger;
 use lent::to_at;
 use terms::LATEST_START;
 ghost use mathlib.Core.Path.{_≡_};
-ghost use Prim.Native.Nat.{_≤_, _<_, max};
+ghost use Prim.Native.Nat.{_≤_, _<_};
 ghost use lib.ListN.{length, getD, replicate};
 ghost use Rattle.terms.specs.Graphs.{Among};
 ghost use Rattle.theory.specs.Sound.{SoundGraph};
@@ -18,6 +20,7 @@ ghost use Rattle.plancheck.specs.Scans.{FirstSubtask};
 pub fn first_outside(procs: &[u8], m: u32) -> usize
     ensures { λ r. ⌜ FirstSubtask (length (now (procs .entry))) (λ j. ¬ Among 1 m (itemOf (now (procs .entry)) j)) r ⌝ }
 {
+    let most = index(m);
     let mut j: usize = 0;
     while j < procs.len() {
         j += 1;
@@ -25,7 +28,7 @@ pub fn first_outside(procs: &[u8], m: u32) -> usize
         if p < 1 {
             return j;
         }
-        if m < p {
+        if most < p {
             return j;
         }
     }
@@ -44,12 +47,6 @@ pub fn first_late(starts: &[u32]) -> usize
         }
     }
     0
-}
-
-fn larger(a: u32, b: u32) -> u32
-    ensures { λ r. ⌜ r ≡ max a b ⌝ }
-{
-    if a < b { b } else { a }
 }
 
 // Leaves the latest end of a predecessor of each subtask in `ready`, 0 where it has none.

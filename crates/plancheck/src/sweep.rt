@@ -60,7 +60,7 @@ fn sweep(
         if s < before {
             return false;
         }
-        let p = index(processor_of(procs, j));
+        let p = processor_of(procs, j);
         if s < until[p] {
             return false;
         }

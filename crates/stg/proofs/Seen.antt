@@ -13,7 +13,8 @@ use Rattle.text.specs.Steps.{nextNumber}
 use Rattle.text.specs.declared.Next.{Next}
 use Rattle.text.specs.declared.Next.the-variants as next
 use Rattle.text.proofs.Next.{the-type}
-use Rattle.text.proofs.Steps.{stands, false-true}
+use Rattle.text.proofs.Digits.{false-true}
+use Rattle.text.proofs.Steps.{stands}
 
 -- the line at hand has no number; it has one. Both only where it is well shaped
 abbrev pub NoNumber : List ℕ → ℕ → Type 0

@@ -12,9 +12,12 @@ use borrow.Author.Tests.{leb-true}
 use lib.Dec.{leb}
 use Rattle.terms.specs.Texts.{allPass, isDigit, valueFrom, value}
 
+pub false-true : {P : Type 0} → false ≡ true → P
+false-true e = let z : _≡_ {A = ℕ} 0 1 = cc in absurd (omega arith)
+
 pub both : (s t : Bool) → (s && t) ≡ true → (s ≡ true) × (t ≡ true)
 both true t e = (refl, e)
-both false t e = let z : _≡_ {A = ℕ} 0 1 = cc in absurd (omega arith)
+both false t e = false-true e
 
 pub digit-bounds : (b : ℕ) → isDigit b ≡ true → (48 ≤ b) × (b ≤ 57)
 digit-bounds b e = let h = both (leb 48 b) (leb b 57) e in (leb-true 48 b (h .0), leb-true b 57 (h .1))

@@ -10,7 +10,7 @@ use lib.Seq.{drop-cons}
 use lib.Dec.{eqb, leb}
 use borrow.Author.Tests.{eqb-true, ne-eqb, not-true}
 use Rattle.terms.specs.Texts.{allPass, isBlank, isDigit, isFeed, isReturn, begins, onto, lines, fields, isField, proper, numbers, endsHere, blanks, digits}
-use Rattle.text.proofs.Digits.{both, digit-bounds}
+use Rattle.text.proofs.Digits.{false-true, both, digit-bounds}
 use Rattle.text.specs.Steps.{lineSize}
 use Rattle.text.specs.Standing.{line, later}
 
@@ -21,7 +21,7 @@ isInner b = not (isBlank b)
 
 neither : (s t : Bool) → (s || t) ≡ false → (s ≡ false) × (t ≡ false)
 neither false t e = (refl, e)
-neither true t e = let z : _≡_ {A = ℕ} 0 1 = cc in absurd (omega arith)
+neither true t e = false-true (sym e)
 
 either : (s t : Bool) → (s || t) ≡ true → (P : Type 0) → (s ≡ true → P) → (t ≡ true → P) → P
 either true t e P f g = f refl
@@ -59,7 +59,7 @@ lines-onto b s e = let x = neither (isFeed b) (isReturn b s) e in rw (x .0, x .1
 
 begins-feed : (s : List ℕ) → begins isFeed s ≡ true → lines s ≡ [] ∷ later s
 unfolding lines later
-begins-feed [] e = let z : _≡_ {A = ℕ} 0 1 = cc in absurd (omega arith)
+begins-feed [] e = false-true e
 begins-feed (b ∷ s) e = rw e
 
 whole-line : (b : ℕ) (s : List ℕ) → endsHere (b ∷ s) ≡ false → (lines s ≡ []) ⊎ (lines s ≡ line s ∷ later s) → (lines s ≡ [] → s ≡ []) → lines (b ∷ s) ≡ line (b ∷ s) ∷ later (b ∷ s)
@@ -122,15 +122,7 @@ digit-plain b s e =
     let h = digit-bounds b e in
     (rw (ne-eqb b 32 (λ g. omega arith), ne-eqb b 9 (λ g. omega arith)), rw (ne-eqb b 10 (λ g. omega arith), ne-eqb b 13 (λ g. omega arith)))
 
-digits-on : (b : ℕ) (s : List ℕ) → isDigit b ≡ true → digits (b ∷ s) ≡ b ∷ digits s
-unfolding digits
-digits-on b s e = rw e
-
-digits-off : (b : ℕ) (s : List ℕ) → isDigit b ≡ false → digits (b ∷ s) ≡ []
-unfolding digits
-digits-off b s e = rw e
-
--- what is known of the digits that lead a text: they are a run of digits, its line begins with them, and no digit stands behind them
+-- what is known of the digits that lead a text: they are digits, its line begins with them, and no digit stands behind them
 pub record Run (s d rest : List ℕ) : Type 0 where
   pub all : allPass isDigit d ≡ true
   pub split : line s ≡ d ++ line rest
@@ -143,12 +135,12 @@ no-digit b s true e f = rw e
 no-digit b s false e f = rw (e, f)
 
 digit-or-not : (b : ℕ) (s : List ℕ) (t : Bool) → isDigit b ≡ t → Run s (digits s) (drop (length (digits s)) s) → Run (b ∷ s) (digits (b ∷ s)) (drop (length (digits (b ∷ s))) (b ∷ s))
-unfolding allPass
+unfolding digits allPass
 digit-or-not b s true e h =
     let f = digit-plain b s e .1 in
-    rw (digits-on b s e)
+    rw e
     (record { all = rw e (h .all); split = rw (line-on b s f) (ap (λ (l : List ℕ). b ∷ l) (h .split)); stop = h .stop; next = later-on b s f ∙ h .next })
-digit-or-not b s false e h = rw (digits-off b s e) (record { all = refl; split = refl; stop = no-digit b s (endsHere (b ∷ s)) refl e; next = refl })
+digit-or-not b s false e h = rw e (record { all = refl; split = refl; stop = no-digit b s (endsHere (b ∷ s)) refl e; next = refl })
 
 pub run : (s : List ℕ) → Run s (digits s) (drop (length (digits s)) s)
 unfolding digits allPass line
@@ -177,7 +169,7 @@ strays (piece ∷ pieces) = not (allPass isDigit piece)
 
 strays-bad : (ws : List (List ℕ)) → strays ws ≡ true → allPass isField ws ≡ false
 unfolding allPass
-strays-bad [] e = let z : _≡_ {A = ℕ} 0 1 = cc in absurd (omega arith)
+strays-bad [] e = false-true e
 strays-bad (w ∷ ws) e = rw (not-true (allPass isDigit w) e, and-false (leb (length w) 8), and-false (leb 1 (length w)))
 
 strays-first : (t : Bool) (x : ℕ) (ws : List (List ℕ)) → isDigit x ≡ false → strays (cond t (onto x ws) ((x ∷ []) ∷ ws)) ≡ true
@@ -188,7 +180,7 @@ strays-first false x ws e = rw e
 
 strays-onto : (b : ℕ) (ws : List (List ℕ)) → strays ws ≡ true → strays (onto b ws) ≡ true
 unfolding allPass
-strays-onto b [] e = let z : _≡_ {A = ℕ} 0 1 = cc in absurd (omega arith)
+strays-onto b [] e = false-true e
 strays-onto b (w ∷ ws) e = rw (not-true (allPass isDigit w) e, and-false (isDigit b))
 
 begins-run : (d : List ℕ) (x : ℕ) (l : List ℕ) → allPass isDigit d ≡ true → isBlank x ≡ false → begins isInner (d ++ x ∷ l) ≡ true
@@ -234,7 +226,8 @@ not-blank b s true e h = let z : _≡_ {A = ℕ} (suc (blanks s)) 0 = rw e at h 
 not-blank b s false e h = e
 
 not-digit : (b : ℕ) (s : List ℕ) (t : Bool) → isDigit b ≡ t → digits (b ∷ s) ≡ [] → isDigit b ≡ false
-not-digit b s true e h = let z : _≡_ {A = List ℕ} (b ∷ digits s) [] = sym (digits-on b s e) ∙ h in let y : _≡_ {A = ℕ} 0 1 = cc in absurd (omega arith)
+unfolding digits
+not-digit b s true e h = let z : _≡_ {A = ℕ} (suc (length (digits s))) 0 = rw e at (ap length h) in absurd (omega arith)
 not-digit b s false e h = e
 
 -- where the line does not end and neither a blank nor a digit stands, the line is spoilt
@@ -245,7 +238,7 @@ spoilt b s h k e = rw (line-on b s e) (stray [] b (line s) refl (not-blank b s (
 -- a line's end without LF in front is CR LF
 return-feed : (b : ℕ) (s : List ℕ) → (b ≡ 10 → ⊥) → isReturn b s ≡ true → lineSize (b ∷ s) ≡ 2
 unfolding lineSize
-return-feed b [] g f = let z = both (eqb b 13) false f .1 in let y : _≡_ {A = ℕ} 0 1 = cc in absurd (omega arith)
+return-feed b [] g f = false-true (both (eqb b 13) false f .1)
 return-feed b (d ∷ s) g f = rw (ne-eqb b 10 g, both (eqb b 13) (isFeed d) f .1)
 
 pub size-return : (b : ℕ) (s : List ℕ) → (b ≡ 10 → ⊥) → endsHere (b ∷ s) ≡ true → lineSize (b ∷ s) ≡ 2

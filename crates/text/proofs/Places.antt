@@ -88,7 +88,7 @@ short : (t : Bool) (b : ℕ) (d : List ℕ) (m : ℕ) → length d ≤ m → len
 short true b d m h = omega arith
 short false b d m h = omega arith
 
-pub digits-le : (s : List ℕ) → length (digits s) ≤ length s
+digits-le : (s : List ℕ) → length (digits s) ≤ length s
 unfolding digits
 digits-le [] = omega arith
 digits-le (b ∷ s) = short (isDigit b) b (digits s) (length s) (digits-le s)
@@ -99,8 +99,8 @@ blanks-within s i h = omega (arith, blanks-le (drop i s), length-drop i s)
 pub size-within : (s : List ℕ) (i : ℕ) → i ≤ length s → i + lineSize (drop i s) ≤ length s
 size-within s i h = omega (arith, size-le (drop i s), length-drop i s)
 
-pub digits-within : (s : List ℕ) (i : ℕ) → i ≤ length s → i + length (digits (drop i s)) ≤ length s
-digits-within s i h = omega (arith, digits-le (drop i s), length-drop i s)
+pub digits-within : (s : List ℕ) (i : ℕ) (d : List ℕ) → d ≡ digits (drop i s) → 1 ≤ length d → i + length d ≤ length s
+digits-within s i d q h = omega (arith, ap length q, digits-le (drop i s), length-drop i s)
 
 -- the digits are that part of the text
 part-of : (t : Bool) (b : ℕ) (s d : List ℕ) → take (length d) s ≡ d → take (length (cond t (b ∷ d) [])) (b ∷ s) ≡ cond t (b ∷ d) []

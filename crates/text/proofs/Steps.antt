@@ -7,7 +7,7 @@ use native.Mathlib.Omega.{arith}
 use native.Mathlib.Nat.{add-zero, eq-or-lt-of-le}
 use mathlib.Core.Logic.{⊎-elim}
 use lib.Dec.{leb}
-use lib.ListN.{length, drop, getD, length-drop, drop-of-length-le}
+use lib.ListN.{length, drop, getD, drop-of-length-le}
 use lib.Seq.{drop-cons, drop-drop}
 use borrow.Author.Tests.{ne-eqb, le-leb, lt-leb}
 use Rattle.terms.specs.Texts.{allPass, isDigit, fields, isField, value, proper, numbers, endsHere, blanks, digits}
@@ -15,19 +15,13 @@ use Rattle.text.specs.declared.Next.{Next}
 use Rattle.text.specs.declared.Next.the-variants as next
 use Rattle.text.specs.Steps.{lineSize, noNumber, nextAt, nextNumber}
 use Rattle.text.specs.Standing.{line, later, Ended, Stands}
-use Rattle.text.proofs.Places.{size-stop, blanks-within, digits-within, digits-le, size-within}
+use Rattle.text.proofs.Digits.{false-true}
+use Rattle.text.proofs.Places.{size-stop, blanks-within, digits-within, size-within}
 use Rattle.text.proofs.Lines.{fields-blanks, later-blanks, blanks-none, Run, run, FieldOrSpoilt, field-or-spoilt, line-off, spoilt, size-return, fields-none, proper-none, numbers-none, later-size, size-on}
 
--- digits that stand in the text end in it
-pub end-within : (text : List ℕ) (start : ℕ) (d : List ℕ) → d ≡ digits (drop start text) → (length d ≡ 0 → ⊥) → start + length d ≤ length text
-end-within text start d q z = omega (arith, ap length q, digits-le (drop start text), length-drop start text)
-
--- and each of them is one
+-- each of the digits is one
 pub digits-all : (text : List ℕ) (start : ℕ) (d : List ℕ) → d ≡ digits (drop start text) → allPass isDigit d ≡ true
 digits-all text start d q = rw q (run (drop start text) .all)
-
-pub false-true : {A : Type 0} → false ≡ true → A
-false-true e = let z : _≡_ {A = ℕ} 0 1 = cc in absurd (omega arith)
 
 -- ---- what stands at a place where no digit is
 
@@ -136,7 +130,7 @@ module _ (text : List ℕ) (at start : ℕ) (p : start ≡ at + blanks (drop at 
             sound = ⊎-elim (λ f. proper-field f true m) (λ f. proper-spoilt (f .0) ∙ sym (f .1)) behind;
             some = λ e. ⊎-elim (λ f. numbers-field f) (λ f. false-true (sym (f .1) ∙ e)) behind;
             next = later-start ∙ met .next;
-            inside = rw q (digits-within text start start-within);
+            inside = digits-within text start d q z;
             on = omega arith;
           }
 

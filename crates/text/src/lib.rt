@@ -1,4 +1,5 @@
 // The fields, numbers and lines of a text, from a place in it on. A place past the end is as good as the end.
+use lent::byte;
 ghost use mathlib.Core.Path.{_≡_};
 ghost use mathlib.Core.Bool.{true};
 ghost use Prim.Native.Nat.{_<_, _≤_, _+_};
@@ -29,12 +30,6 @@ fn is_digit(b: u8) -> bool
         return false;
     }
     b <= 57
-}
-
-fn wide(b: u8) -> usize
-    ensures { λ r. ⌜ r ≡ b ⌝ }
-{
-    b as usize
 }
 
 // Whether a line ends at `at`: LF, or CR and then LF.
@@ -120,10 +115,10 @@ fn value_of(field: &[u8]) -> usize
     requires { ⌜ (1 ≤ length (now field)) × (length (now field) ≤ 8) × (allPass isDigit (now field) ≡ true) ⌝ }
     ensures { λ r. ⌜ r ≡ value (now (field .entry)) ⌝ }
 {
-    let mut number = wide(field[0] - 48);
+    let mut number = byte(field[0] - 48);
     let mut i: usize = 1;
     while i < field.len() {
-        number = number * 10 + wide(field[i] - 48);
+        number = number * 10 + byte(field[i] - 48);
         i += 1;
     }
     number

@@ -3,11 +3,11 @@ use mathlib.Core.Path.{_≡_, refl}
 use mathlib.Core.List.{List, [], _∷_}
 use Prim.Native.Nat.{ℕ, _+_, _-_}
 use native.Mathlib.Omega.{arith}
-use lib.ListN.{length, take, drop, length-drop}
+use lib.ListN.{length, take, drop}
 use borrow.Author.Needs.{needs}
 use native.Mathlib.Nat.{add-sub-cancel-left}
 use Rattle.terms.specs.Texts.{digits}
-use Rattle.text.proofs.Places.{digits-le, digits-part}
+use Rattle.text.proofs.Places.{digits-within, digits-part}
 use Rattle.text.proofs.field_from.Statement.{statement}
 use Rattle.text.proofs.field_from.Tie as tie
 
@@ -44,7 +44,7 @@ part-result-start-2 c = search needs
 part-result-end-2 : tie.Need-part-result-end-2
 part-result-end-2 c =
     let c-args = c .before .before .before .args in
-    omega (arith, digits-le (drop (c-args .at) (c-args .text .now)), length-drop (c-args .at) (c-args .text .now))
+    omega (arith, digits-within (c-args .text .now) (c-args .at) _ refl (omega arith))
 
 returns-2 : tie.Need-returns-2
 returns-2 c =

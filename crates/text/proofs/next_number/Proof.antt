@@ -1,7 +1,8 @@
 -- `next_number`: what stands next on the line. Assumes nothing.
 use native.Mathlib.Omega.{arith}
 use borrow.Author.Needs.{needs}
-use Rattle.text.proofs.Steps.{digits-all, end-within, next-none, next-long, next-is}
+use Rattle.text.proofs.Places.{digits-within}
+use Rattle.text.proofs.Steps.{digits-all, next-none, next-long, next-is}
 use Rattle.text.proofs.next_number.Statement.{statement}
 use Rattle.text.proofs.next_number.Tie as tie
 
@@ -41,8 +42,7 @@ add-t8 c =
     let c-args = c .before .before .before .before .before .before .args in
     let c-blanks-end = c .before .before .before .before .blanks-end in
     let c-field-from = c .before .before .before .field-from in
-    let c-if1 = c .before .before .if1 in
-    omega (arith, end-within (c-args .text .now) (c-blanks-end .result) (c-field-from .result .now) (c-field-from .ensures) (c-if1 .left))
+    omega (arith, digits-within (c-args .text .now) (c-blanks-end .result) (c-field-from .result .now) (c-field-from .ensures) (omega arith))
 
 returns-3 : tie.Need-returns-3
 returns-3 c =

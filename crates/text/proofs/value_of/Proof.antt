@@ -13,24 +13,24 @@ Inv-loop field number₀ i₀ number i = Made field number i
 abbrev μ-loop : tie.MeasureT-loop
 μ-loop field number₀ i₀ number i = length field - i
 
-shared-slice-read-wide : tie.Need-shared-slice-read-wide Inv-loop μ-loop
-shared-slice-read-wide c = search needs
+shared-slice-read-byte : tie.Need-shared-slice-read-byte Inv-loop μ-loop
+shared-slice-read-byte c = search needs
 
-sub-wide : tie.Need-sub-wide Inv-loop μ-loop
-sub-wide c =
+sub-byte : tie.Need-sub-byte Inv-loop μ-loop
+sub-byte c =
     let c-args = c .before .before .args in
     let c-pre = c .before .before .pre in
     digit-at (c-args .field .now) 0 (c-pre .2) (omega arith) .0
 
-wide-requires : tie.Need-wide-requires Inv-loop μ-loop
-wide-requires c κs = search needs
+byte-requires : tie.Need-byte-requires Inv-loop μ-loop
+byte-requires c κs = search needs
 
 loop-holds : tie.Need-loop-holds Inv-loop μ-loop
 loop-holds c =
     let c-args = c .before .before .before .args in
     let c-pre = c .before .before .before .pre in
-    let c-wide = c .wide in
-    made-first (c-args .field .now) (c-pre .2) (c-wide .result) (omega arith) (c-wide .ensures)
+    let c-byte = c .byte in
+    made-first (c-args .field .now) (c-pre .2) (c-byte .result) (omega arith) (c-byte .ensures .0)
 
 mul-number : tie.Need-mul-number Inv-loop μ-loop
 mul-number c =
@@ -38,18 +38,18 @@ mul-number c =
     let c-loop = c .before .loop in
     omega (arith, made-few (c-args .field .now) (c-loop .number) (c-loop .i) (c-loop .inv) (omega arith))
 
-shared-slice-read-wide-2 : tie.Need-shared-slice-read-wide-2 Inv-loop μ-loop
-shared-slice-read-wide-2 c = search needs
+shared-slice-read-byte-2 : tie.Need-shared-slice-read-byte-2 Inv-loop μ-loop
+shared-slice-read-byte-2 c = search needs
 
-sub-wide-2 : tie.Need-sub-wide-2 Inv-loop μ-loop
-sub-wide-2 c =
+sub-byte-2 : tie.Need-sub-byte-2 Inv-loop μ-loop
+sub-byte-2 c =
     let c-args = c .before .before .before .before .before .before .args in
     let c-loop = c .before .before .loop in
     let c-pre = c .before .before .before .before .before .before .pre in
     digit-at (c-args .field .now) (c-loop .i) (c-pre .2) (omega arith) .0
 
-wide-requires-2 : tie.Need-wide-requires-2 Inv-loop μ-loop
-wide-requires-2 c κs = search needs
+byte-requires-2 : tie.Need-byte-requires-2 Inv-loop μ-loop
+byte-requires-2 c κs = search needs
 
 add-number : tie.Need-add-number Inv-loop μ-loop
 add-number c =
@@ -68,9 +68,9 @@ loop-again : tie.Need-loop-again Inv-loop μ-loop
 loop-again c =
     let c-args = c .before .before .before .before .before .before .before .args in
     let c-pre = c .before .before .before .before .before .before .before .pre in
-    let c-wide2 = c .wide2 in
+    let c-byte2 = c .byte2 in
     let c-loop = c .before .before .before .loop in
-    made-more (c-args .field .now) (c-pre .2) (c-wide2 .result) (c-loop .number) (c-loop .i) (c-loop .inv) (omega arith) (c-wide2 .ensures)
+    made-more (c-args .field .now) (c-pre .2) (c-byte2 .result) (c-loop .number) (c-loop .i) (c-loop .inv) (omega arith) (c-byte2 .ensures .0)
 
 returns : tie.Need-returns Inv-loop μ-loop
 returns c =
@@ -84,14 +84,14 @@ value-of-spec =
     (tie.spec
     Inv-loop
     μ-loop
-    shared-slice-read-wide
-    sub-wide
-    wide-requires
+    shared-slice-read-byte
+    sub-byte
+    byte-requires
     loop-holds
     mul-number
-    shared-slice-read-wide-2
-    sub-wide-2
-    wide-requires-2
+    shared-slice-read-byte-2
+    sub-byte-2
+    byte-requires-2
     add-number
     add-i
     loop-less

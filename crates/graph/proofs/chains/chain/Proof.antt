@@ -1,20 +1,26 @@
 -- `chain`: the two tables hold the chains of the arrows. Assumes nothing.
 use mathlib.Core.Path.{_≡_}
-use Prim.Native.Nat.{_-_, _≤_}
+use Prim.Native.Nat.{_-_, _≤_, _<_}
 use native.Mathlib.Omega.{arith}
 use lib.ListN.{length}
 use borrow.Author.Needs.{needs}
 use denote.Ref.{now}
+use Rattle.terms.specs.Graphs.{toOf}
 use Rattle.graph.specs.Chains.{Chains}
 use Rattle.graph.proofs.Chained.{chains-none, chains-more, to-small}
 use Rattle.graph.proofs.chains.chain.Statement.{statement}
 use Rattle.graph.proofs.chains.chain.Tie as tie
 
 abbrev Inv-loop : tie.InvT-loop
-Inv-loop n arrows first₀ next₀ i₀ first next i = (i ≤ length arrows) × Chains arrows first next i
+Inv-loop n arrows first₀ next₀ i₀ first next i = (i ≤ length arrows) × Chains (toOf arrows) first next i
 
 abbrev μ-loop : tie.MeasureT-loop
 μ-loop n arrows first₀ next₀ i₀ first next i = length arrows - i
+
+to-in : (c : tie.After-to-at Inv-loop μ-loop) → c .to-at .result < 257
+to-in c =
+    let c-pre = c .before .before .before .pre in
+    to-small (c-pre .0) _ _ (c .before .loop-test .taken) (c .to-at .ensures .0)
 
 loop-holds : tie.Need-loop-holds Inv-loop μ-loop
 loop-holds c =
@@ -28,9 +34,13 @@ mul-next : tie.Need-mul-next Inv-loop μ-loop
 mul-next c = omega arith
 
 element-copy-out-next : tie.Need-element-copy-out-next Inv-loop μ-loop
-element-copy-out-next c =
-    let c-pre = c .before .before .before .pre in
-    to-small (c-pre .0) _ _ (c .before .loop-test .taken) (c .to-at .ensures .0)
+element-copy-out-next c = to-in c
+
+cast-next : tie.Need-cast-next Inv-loop μ-loop
+cast-next c =
+    let c-pre = c .before .before .before .before .pre in
+    let c-loop = c .before .before .before .loop in
+    omega (arith, c-loop .inv .1 .start (c .before .to-at .result) (to-in (c .before)) .within, c-pre .0 .few)
 
 mul-next-2 : tie.Need-mul-next-2 Inv-loop μ-loop
 mul-next-2 c = search needs
@@ -52,10 +62,7 @@ mul-first : tie.Need-mul-first Inv-loop μ-loop
 mul-first c = search needs
 
 element-write-first : tie.Need-element-write-first Inv-loop μ-loop
-element-write-first c =
-    let c-pre = c .before .before .before .before .pre in
-    let c-loop-test = c .before .before .loop-test in
-    to-small (c-pre .0) _ _ (c-loop-test .taken) (c .before .to-at .ensures .0)
+element-write-first c = to-in (c .before)
 
 add-i : tie.Need-add-i Inv-loop μ-loop
 add-i c = search needs
@@ -67,9 +74,8 @@ loop-again : tie.Need-loop-again Inv-loop μ-loop
 loop-again c =
     let c-to-at = c .before .to-at in
     let c-pre = c .before .before .before .before .pre in
-    let c-loop-test = c .before .before .loop-test in
     let c-loop = c .before .before .before .loop in
-    (omega arith, (chains-more _ _ _ _ _ (c-to-at .ensures .0) (to-small (c-pre .0) _ _ (c-loop-test .taken) (c-to-at .ensures .0)) (omega (arith, c-pre .0 .few)) (c-loop .inv .1)))
+    (omega arith, chains-more _ _ _ _ _ (c-to-at .ensures .0) (to-in (c .before)) (omega (arith, c-pre .0 .few)) (c-loop .inv .1))
 
 returns : tie.Need-returns Inv-loop μ-loop
 returns c =
@@ -87,6 +93,7 @@ chain-spec =
     to-at-requires
     mul-next
     element-copy-out-next
+    cast-next
     mul-next-2
     element-write-next
     add-first

@@ -3,8 +3,9 @@ use mathlib.Core.Path.{refl}
 use Prim.Native.Nat.{ℕ, _+_, _≤_, _<_}
 use native.Mathlib.Omega.{arith}
 use lib.ListN.{length-replicate}
-use borrow.Author.Needs.{needs, scaled-fits}
+use borrow.Author.Needs.{scaled-fits}
 use lib.Dec.{lit<}
+use Rattle.graph.proofs.Ways.{both}
 use Rattle.graph.proofs.Walked.{State, left, state-start, root-small, state-root, state-enter, state-end, end-small, state-home, back-small, state-back, cursor-small, state-skip, room-for, state-on, state-cycle}
 use Rattle.graph.proofs.order.place.Statement.{statement}
 use Rattle.graph.proofs.order.place.Tie as tie
@@ -58,21 +59,13 @@ array-read-m c = looks c .0
 after-requires : tie.Need-after-requires Inv-loop μ-loop
 after-requires c κs = (omega arith, looks (c .before) .1)
 
-loop-less : tie.Need-loop-less Inv-loop μ-loop
-loop-less c =
+skips : tie.Need-loop-again Inv-loop μ-loop × tie.Need-loop-less Inv-loop μ-loop
+skips = both (λ c.
     let c-pre = c .before .before .before .before .before .pre in
     let c-loop = c .before .before .before .before .loop in
     let c-if1 = c .before .before .before .if1 in
     let c-source = c .before .before .source in
-    rw (c .after .ensures) (state-skip _ _ _ _ (c-pre .0) (c-pre .1 .0) _ _ _ _ _ _ _ _ (c-loop .inv) (c-if1 .taken) _ (c-source .ensures .0) (c .before .if2 .taken) .1)
-
-loop-again : tie.Need-loop-again Inv-loop μ-loop
-loop-again c =
-    let c-pre = c .before .before .before .before .before .pre in
-    let c-loop = c .before .before .before .before .loop in
-    let c-if1 = c .before .before .before .if1 in
-    let c-source = c .before .before .source in
-    rw (c .after .ensures) (state-skip _ _ _ _ (c-pre .0) (c-pre .1 .0) _ _ _ _ _ _ _ _ (c-loop .inv) (c-if1 .taken) _ (c-source .ensures .0) (c .before .if2 .taken) .0)
+    rw (c .after .ensures) (state-skip _ _ _ _ (c-pre .0) (c-pre .1 .0) _ _ _ _ _ _ _ _ (c-loop .inv) (c-if1 .taken) _ (c-source .ensures .0) (c .before .if2 .taken)))
 
 cast-stack : tie.Need-cast-stack Inv-loop μ-loop
 cast-stack c = omega (arith, looks (c .before .before))
@@ -101,21 +94,13 @@ array-write-mark c = looks (c .before .before) .0
 start-of-requires : tie.Need-start-of-requires Inv-loop μ-loop
 start-of-requires c κs = looks (c .before .before) .0
 
-loop-less-2 : tie.Need-loop-less-2 Inv-loop μ-loop
-loop-less-2 c =
+goes-on : tie.Need-loop-again-2 Inv-loop μ-loop × tie.Need-loop-less-2 Inv-loop μ-loop
+goes-on = both (λ c.
     let c-pre = c .before .before .before .before .before .before .pre in
     let c-loop = c .before .before .before .before .before .loop in
     let c-if1 = c .before .before .before .before .if1 in
     let c-source = c .before .before .before .source in
-    rw (c .start-of .ensures) (state-on _ _ _ _ (c-pre .0) (c-pre .1 .0) _ _ _ _ _ _ _ _ (c-loop .inv) (c-if1 .taken) _ (c-source .ensures .0) (c .before .if3 .taken) .1)
-
-loop-again-2 : tie.Need-loop-again-2 Inv-loop μ-loop
-loop-again-2 c =
-    let c-pre = c .before .before .before .before .before .before .pre in
-    let c-loop = c .before .before .before .before .before .loop in
-    let c-if1 = c .before .before .before .before .if1 in
-    let c-source = c .before .before .before .source in
-    rw (c .start-of .ensures) (state-on _ _ _ _ (c-pre .0) (c-pre .1 .0) _ _ _ _ _ _ _ _ (c-loop .inv) (c-if1 .taken) _ (c-source .ensures .0) (c .before .if3 .taken) .0)
+    rw (c .start-of .ensures) (state-on _ _ _ _ (c-pre .0) (c-pre .1 .0) _ _ _ _ _ _ _ _ (c-loop .inv) (c-if1 .taken) _ (c-source .ensures .0) (c .before .if3 .taken)))
 
 returns : tie.Need-returns Inv-loop μ-loop
 returns c =
@@ -143,19 +128,12 @@ element-write-order c = ends c .2
 add-placed : tie.Need-add-placed Inv-loop μ-loop
 add-placed c = omega (arith, ends c)
 
-loop-less-3 : tie.Need-loop-less-3 Inv-loop μ-loop
-loop-less-3 c =
+comes-home : tie.Need-loop-again-3 Inv-loop μ-loop × tie.Need-loop-less-3 Inv-loop μ-loop
+comes-home = both (λ c.
     let c-pre = c .before .before .before .before .pre in
     let c-loop = c .before .before .before .loop in
     let c-if1 = c .before .before .if1 in
-    state-home _ _ _ _ (c-pre .0) (c-pre .1 .0) _ _ _ _ _ _ _ _ (c-loop .inv) (c-if1 .left) (c .before .if4 .taken) (c .if5 .taken) .1
-
-loop-again-3 : tie.Need-loop-again-3 Inv-loop μ-loop
-loop-again-3 c =
-    let c-pre = c .before .before .before .before .pre in
-    let c-loop = c .before .before .before .loop in
-    let c-if1 = c .before .before .if1 in
-    (state-home _ _ _ _ (c-pre .0) (c-pre .1 .0) _ _ _ _ _ _ _ _ (c-loop .inv) (c-if1 .left) (c .before .if4 .taken) (c .if5 .taken) .0)
+    state-home _ _ _ _ (c-pre .0) (c-pre .1 .0) _ _ _ _ _ _ _ _ (c-loop .inv) (c-if1 .left) (c .before .if4 .taken) (c .if5 .taken))
 
 sub-depth : tie.Need-sub-depth Inv-loop μ-loop
 sub-depth c = omega arith
@@ -178,25 +156,15 @@ to-at-requires c κs = tt
 after-requires-2 : tie.Need-after-requires-2 Inv-loop μ-loop
 after-requires-2 c κs = backs (c .before)
 
-loop-less-4 : tie.Need-loop-less-4 Inv-loop μ-loop
-loop-less-4 c =
+goes-back : tie.Need-loop-again-4 Inv-loop μ-loop × tie.Need-loop-less-4 Inv-loop μ-loop
+goes-back = both (λ c.
     let c-pre = c .before .before .before .before .before .before .before .pre in
     let c-loop = c .before .before .before .before .before .before .loop in
     let c-if1 = c .before .before .before .before .before .if1 in
     let c-if4 = c .before .before .before .before .if4 in
     let c-if5 = c .before .before .before .if5 in
     let c-wide = c .before .before .wide in
-    rw (c .after2 .ensures) (state-back _ _ _ _ (c-pre .0) (c-pre .1 .0) _ _ _ _ _ _ _ _ (c-loop .inv) (c-if1 .left) (c-if4 .taken) (c-if5 .left) _ _ (c-wide .ensures .0) (c .before .to-at .ensures .0) .1)
-
-loop-again-4 : tie.Need-loop-again-4 Inv-loop μ-loop
-loop-again-4 c =
-    let c-pre = c .before .before .before .before .before .before .before .pre in
-    let c-loop = c .before .before .before .before .before .before .loop in
-    let c-if1 = c .before .before .before .before .before .if1 in
-    let c-if4 = c .before .before .before .before .if4 in
-    let c-if5 = c .before .before .before .if5 in
-    let c-wide = c .before .before .wide in
-    rw (c .after2 .ensures) (state-back _ _ _ _ (c-pre .0) (c-pre .1 .0) _ _ _ _ _ _ _ _ (c-loop .inv) (c-if1 .left) (c-if4 .taken) (c-if5 .left) _ _ (c-wide .ensures .0) (c .before .to-at .ensures .0) .0)
+    rw (c .after2 .ensures) (state-back _ _ _ _ (c-pre .0) (c-pre .1 .0) _ _ _ _ _ _ _ _ (c-loop .inv) (c-if1 .left) (c-if4 .taken) (c-if5 .left) _ _ (c-wide .ensures .0) (c .before .to-at .ensures .0)))
 
 returns-2 : tie.Need-returns-2 Inv-loop μ-loop
 returns-2 c =
@@ -223,39 +191,22 @@ array-write-mark-3 c = roots (c .before)
 start-of-requires-2 : tie.Need-start-of-requires-2 Inv-loop μ-loop
 start-of-requires-2 c κs = roots (c .before)
 
-loop-less-5 : tie.Need-loop-less-5 Inv-loop μ-loop
-loop-less-5 c =
+enters : tie.Need-loop-again-5 Inv-loop μ-loop × tie.Need-loop-less-5 Inv-loop μ-loop
+enters = both (λ c.
     let c-pre = c .before .before .before .before .before .before .pre in
     let c-loop = c .before .before .before .before .before .loop in
     let c-if1 = c .before .before .before .before .if1 in
     let c-if4 = c .before .before .before .if4 in
     let c-if6 = c .before .before .if6 in
-    rw (c .start-of2 .ensures) (state-enter _ _ _ _ (c-pre .0) (c-pre .1 .0) _ _ _ _ _ _ _ _ (c-loop .inv) (c-if1 .left) (c-if4 .left) (c-if6 .left) (c .before .if7 .taken) .1)
+    rw (c .start-of2 .ensures) (state-enter _ _ _ _ (c-pre .0) (c-pre .1 .0) _ _ _ _ _ _ _ _ (c-loop .inv) (c-if1 .left) (c-if4 .left) (c-if6 .left) (c .before .if7 .taken)))
 
-loop-again-5 : tie.Need-loop-again-5 Inv-loop μ-loop
-loop-again-5 c =
-    let c-pre = c .before .before .before .before .before .before .pre in
-    let c-loop = c .before .before .before .before .before .loop in
-    let c-if1 = c .before .before .before .before .if1 in
-    let c-if4 = c .before .before .before .if4 in
-    let c-if6 = c .before .before .if6 in
-    rw (c .start-of2 .ensures) (state-enter _ _ _ _ (c-pre .0) (c-pre .1 .0) _ _ _ _ _ _ _ _ (c-loop .inv) (c-if1 .left) (c-if4 .left) (c-if6 .left) (c .before .if7 .taken) .0)
-
-loop-less-6 : tie.Need-loop-less-6 Inv-loop μ-loop
-loop-less-6 c =
+next-root : tie.Need-loop-again-6 Inv-loop μ-loop × tie.Need-loop-less-6 Inv-loop μ-loop
+next-root = both (λ c.
     let c-pre = c .before .before .before .before .before .pre in
     let c-loop = c .before .before .before .before .loop in
     let c-if1 = c .before .before .before .if1 in
     let c-if4 = c .before .before .if4 in
-    state-root _ _ _ _ (c-pre .0) (c-pre .1 .0) _ _ _ _ _ _ _ _ (c-loop .inv) (c-if1 .left) (c-if4 .left) (c .before .if6 .left) (c .if7 .left) .1
-
-loop-again-6 : tie.Need-loop-again-6 Inv-loop μ-loop
-loop-again-6 c =
-    let c-pre = c .before .before .before .before .before .pre in
-    let c-loop = c .before .before .before .before .loop in
-    let c-if1 = c .before .before .before .if1 in
-    let c-if4 = c .before .before .if4 in
-    state-root _ _ _ _ (c-pre .0) (c-pre .1 .0) _ _ _ _ _ _ _ _ (c-loop .inv) (c-if1 .left) (c-if4 .left) (c .before .if6 .left) (c .if7 .left) .0
+    state-root _ _ _ _ (c-pre .0) (c-pre .1 .0) _ _ _ _ _ _ _ _ (c-loop .inv) (c-if1 .left) (c-if4 .left) (c .before .if6 .left) (c .if7 .left))
 
 pub place-spec : {M : Type 1} → statement M
 place-spec =
@@ -268,8 +219,8 @@ place-spec =
     mul-m
     array-read-m
     after-requires
-    loop-less
-    loop-again
+    (skips .1)
+    (skips .0)
     cast-stack
     mul-stack
     array-write-stack
@@ -279,8 +230,8 @@ place-spec =
     mul-mark
     array-write-mark
     start-of-requires
-    loop-less-2
-    loop-again-2
+    (goes-on .1)
+    (goes-on .0)
     returns
     mul-mark-2
     array-write-mark-2
@@ -288,8 +239,8 @@ place-spec =
     mul-order
     element-write-order
     add-placed
-    loop-less-3
-    loop-again-3
+    (comes-home .1)
+    (comes-home .0)
     sub-depth
     mul-wide
     array-read-wide
@@ -297,8 +248,8 @@ place-spec =
     sub-to-at
     to-at-requires
     after-requires-2
-    loop-less-4
-    loop-again-4
+    (goes-back .1)
+    (goes-back .0)
     returns-2
     add-root
     mul-if7
@@ -306,7 +257,7 @@ place-spec =
     mul-mark-3
     array-write-mark-3
     start-of-requires-2
-    loop-less-5
-    loop-again-5
-    loop-less-6
-    loop-again-6)
+    (enters .1)
+    (enters .0)
+    (next-root .1)
+    (next-root .0))

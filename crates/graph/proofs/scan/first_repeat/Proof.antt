@@ -4,6 +4,7 @@ use Prim.Native.Nat.{_+_, _-_, _*_, _≤_, _<_}
 use native.Mathlib.Omega.{arith}
 use borrow.Author.Needs.{needs}
 use denote.Ref.{now}
+use Rattle.graph.proofs.Ways.{both}
 use Rattle.graph.proofs.Repeated.{Met, met-start, met-next, at-cursor, at-arrow, met-pass, met-end}
 use Rattle.graph.proofs.scan.first_repeat.Statement.{statement}
 use Rattle.graph.proofs.scan.first_repeat.Tie as tie
@@ -38,19 +39,15 @@ start-of-requires c κs =
     let c-pre = c .before .before .before .pre in
     omega (arith, c-pre .0 .subtasks)
 
-loop-less : tie.Need-loop-less Inv-loop μ-loop
-loop-less c =
-    let c-pre = c .before .before .before .before .pre in
-    let c-loop = c .before .before .before .loop in
-    omega (arith, c .start-of .ensures, c-pre .1 .start (c-loop .v + 1) (omega (arith, c-pre .0 .subtasks)) .within, c-pre .0 .few)
-
-loop-again : tie.Need-loop-again Inv-loop μ-loop
-loop-again c =
+next-chain : tie.Need-loop-again Inv-loop μ-loop × tie.Need-loop-less Inv-loop μ-loop
+next-chain = both (λ c.
     let c-args = c .before .before .before .before .args in
     let c-loop = c .before .before .before .loop in
     let c-if1 = c .before .before .if1 in
     let c-pre = c .before .before .before .before .pre in
-    let r : Met (now (c-args .arrows)) (c-loop .seen) (c-loop .met) (c-loop .found) (c-loop .v) 0 = rw (c-if1 .taken) at (c-loop .inv .1) in (omega arith, met-next _ _ _ _ _ _ (rw (← c .start-of .ensures) at (c-pre .1 .start (c-loop .v + 1) (omega (arith, c-pre .0 .subtasks)))) r)
+    let last = rw (← c .start-of .ensures) at (c-pre .1 .start (c-loop .v + 1) (omega (arith, c-pre .0 .subtasks))) in
+    let r : Met (now (c-args .arrows)) (c-loop .seen) (c-loop .met) (c-loop .found) (c-loop .v) 0 = rw (c-if1 .taken) at (c-loop .inv .1) in
+    ((omega arith, met-next _ _ _ _ _ _ last r), omega (arith, last .within, c-pre .0 .few)))
 
 source-requires : tie.Need-source-requires Inv-loop μ-loop
 source-requires c κs = (omega arith, c .before .loop .inv .1 .cap)
@@ -94,21 +91,15 @@ array-write-met c = small (c .before .before) .0
 after-requires : tie.Need-after-requires Inv-loop μ-loop
 after-requires c κs = (omega arith, small (c .before .before) .2)
 
-loop-less-2 : tie.Need-loop-less-2 Inv-loop μ-loop
-loop-less-2 c =
-    let c-pre = c .before .before .before .before .before .before .pre in
-    let c-loop = c .before .before .before .before .before .loop in
-    let c-if1 = c .before .before .before .before .if1 in
-    omega (arith, c .after .ensures, c-pre .1 .step (c-loop .c - 1) (at-cursor _ _ (c-pre .0) _ _ _ _ _ _ (c-loop .inv .1) (c-if1 .left) refl) .within)
-
-loop-again-2 : tie.Need-loop-again-2 Inv-loop μ-loop
-loop-again-2 c =
+passes : tie.Need-loop-again-2 Inv-loop μ-loop × tie.Need-loop-less-2 Inv-loop μ-loop
+passes = both (λ c.
     let c-pre = c .before .before .before .before .before .before .pre in
     let c-loop = c .before .before .before .before .before .loop in
     let c-if1 = c .before .before .before .before .if1 in
     let c-source = c .before .before .before .source in
     let c-met-in = c .before .before .met-in in
-    (omega arith, rw (c .after .ensures) (met-pass _ _ (c-pre .0) _ _ _ _ _ _ (c-loop .inv .1) (c-if1 .left) (c-source .ensures .0) _ _ _ (c-met-in .ensures) (c .before .earlier .ensures) (c-pre .1 .step (c-loop .c - 1) (at-cursor _ _ (c-pre .0) _ _ _ _ _ _ (c-loop .inv .1) (c-if1 .left) refl))))
+    let last = rw (← c .after .ensures) at (c-pre .1 .step (c-loop .c - 1) (at-cursor _ _ (c-pre .0) _ _ _ _ _ _ (c-loop .inv .1) (c-if1 .left) refl)) in
+    ((omega arith, met-pass _ _ (c-pre .0) _ _ _ _ _ _ (c-loop .inv .1) (c-if1 .left) (c-source .ensures .0) _ _ _ (c-met-in .ensures) (c .before .earlier .ensures) last), omega (arith, last .within)))
 
 pub first-repeat-spec : {M : Type 1} → statement M
 first-repeat-spec =
@@ -120,8 +111,8 @@ first-repeat-spec =
     returns
     add-v
     start-of-requires
-    loop-less
-    loop-again
+    (next-chain .1)
+    (next-chain .0)
     source-requires
     mul-met-in
     array-read-met-in
@@ -136,5 +127,5 @@ first-repeat-spec =
     mul-met
     array-write-met
     after-requires
-    loop-less-2
-    loop-again-2)
+    (passes .1)
+    (passes .0))

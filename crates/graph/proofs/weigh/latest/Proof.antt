@@ -5,6 +5,7 @@ use native.Mathlib.Omega.{arith}
 use borrow.Author.Needs.{needs}
 use denote.Ref.{now}
 use Rattle.graph.proofs.Chained.{from-small}
+use Rattle.graph.proofs.Ways.{both}
 use Rattle.graph.proofs.Weighed.{LookedAt, looked-start, look-at, looked-more}
 use Rattle.graph.proofs.weigh.latest.Statement.{statement}
 use Rattle.graph.proofs.weigh.latest.Tie as tie
@@ -44,20 +45,14 @@ after-requires c κs =
     let c-loop = c .before .before .before .before .loop in
     (omega arith, omega (arith, c-pre .0 .0 .few, c-loop .inv .cap))
 
-loop-less : tie.Need-loop-less Inv-loop μ-loop
-loop-less c =
-    let c-pre = c .before .before .before .before .before .before .before .pre in
-    let c-loop = c .before .before .before .before .before .loop in
-    let c-loop-test = c .before .before .before .before .loop-test in
-    omega (arith, c .after .ensures, c-pre .1 .step (c-loop .c - 1) (look-at _ _ (c-pre .0 .0) _ _ _ _ _ (c-loop .inv) (c-loop-test .taken) refl) .within)
-
-loop-again : tie.Need-loop-again Inv-loop μ-loop
-loop-again c =
+looks : tie.Need-loop-again Inv-loop μ-loop × tie.Need-loop-less Inv-loop μ-loop
+looks = both (λ c.
     let c-pre = c .before .before .before .before .before .before .before .pre in
     let c-loop = c .before .before .before .before .before .loop in
     let c-loop-test = c .before .before .before .before .loop-test in
     let c-source = c .before .before .before .source in
-    rw (c .after .ensures) (looked-more _ _ (c-pre .0 .0) _ _ _ _ _ (c-loop .inv) (c-loop-test .taken) (c-source .ensures .0) _ _ (c .before .larger .ensures) (c-pre .1 .step (c-loop .c - 1) (look-at _ _ (c-pre .0 .0) _ _ _ _ _ (c-loop .inv) (c-loop-test .taken) refl)))
+    let last = rw (← c .after .ensures) at (c-pre .1 .step (c-loop .c - 1) (look-at _ _ (c-pre .0 .0) _ _ _ _ _ (c-loop .inv) (c-loop-test .taken) refl)) in
+    (looked-more _ _ (c-pre .0 .0) _ _ _ _ _ (c-loop .inv) (c-loop-test .taken) (c-source .ensures .0) _ _ (c .before .larger .ensures) last, omega (arith, last .within)))
 
 returns : tie.Need-returns Inv-loop μ-loop
 returns c =
@@ -78,6 +73,6 @@ latest-spec =
     element-copy-out-larger
     larger-requires
     after-requires
-    loop-less
-    loop-again
+    (looks .1)
+    (looks .0)
     returns)

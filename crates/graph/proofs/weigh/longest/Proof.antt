@@ -1,6 +1,6 @@
 -- `longest`: the answer is the longest path. Assumes nothing.
-use mathlib.Core.Path.{_≡_, refl}
-use Prim.Native.Nat.{_-_}
+use mathlib.Core.Path.{_≡_}
+use Prim.Native.Nat.{_-_, _<_}
 use native.Mathlib.Omega.{arith}
 use lib.ListN.{length}
 use borrow.Author.Needs.{needs}
@@ -15,20 +15,23 @@ Inv-loop times arrows first next order finish₀ most₀ j₀ finish most j = We
 abbrev μ-loop : tie.MeasureT-loop
 μ-loop times arrows first next order finish₀ most₀ j₀ finish most j = length times - j
 
+place-in : (c : tie.In-loop Inv-loop μ-loop) → c .before .loop .j < 256
+place-in c = omega (arith, c .loop-test .taken, c .before .before .before .pre .0 .0 .subtasks)
+
+entry-in : (c : tie.After-wide Inv-loop μ-loop) → c .wide .result < 257
+entry-in c =
+    let c-pre = c .before .before .before .before .before .pre in
+    let c-loop = c .before .before .before .loop in
+    entry-small _ _ _ (c-pre .0 .0) (c-pre .1 .1) _ _ _ (c-loop .inv) (c .before .before .loop-test .taken) _ (c .wide .ensures .0)
+
 loop-holds : tie.Need-loop-holds Inv-loop μ-loop
 loop-holds c = weighed-start _ _ _
 
 mul-wide : tie.Need-mul-wide Inv-loop μ-loop
-mul-wide c =
-    let c-pre = c .before .before .before .pre in
-    let c-loop = c .before .loop in
-    omega (arith, entry-small _ _ _ (c-pre .0 .0) (c-pre .1 .1) _ _ _ (c-loop .inv) (c .loop-test .taken) _ refl)
+mul-wide c = omega (arith, place-in c)
 
 element-copy-out-wide : tie.Need-element-copy-out-wide Inv-loop μ-loop
-element-copy-out-wide c =
-    let c-pre = c .before .before .before .pre in
-    let c-loop = c .before .loop in
-    entry-small _ _ _ (c-pre .0 .0) (c-pre .1 .1) _ _ _ (c-loop .inv) (c .loop-test .taken) _ refl .2
+element-copy-out-wide c = place-in c
 
 wide-requires : tie.Need-wide-requires Inv-loop μ-loop
 wide-requires c κs = search needs
@@ -36,9 +39,7 @@ wide-requires c κs = search needs
 latest-requires : tie.Need-latest-requires Inv-loop μ-loop
 latest-requires c κs =
     let c-pre = c .before .before .before .before .before .before .pre in
-    let c-loop = c .before .before .before .before .loop in
-    let c-loop-test = c .before .before .before .loop-test in
-    ((c-pre .0 .0, entry-small _ _ _ (c-pre .0 .0) (c-pre .1 .1) _ _ _ (c-loop .inv) (c-loop-test .taken) _ (c .before .wide .ensures .0) .1), c-pre .1 .0)
+    ((c-pre .0 .0, entry-in (c .before)), c-pre .1 .0)
 
 time-of-requires : tie.Need-time-of-requires Inv-loop μ-loop
 time-of-requires c κs = search needs
@@ -52,31 +53,16 @@ add-f c =
     omega (arith, time-fits _ _ _ (c-pre .0 .0) (c-pre .1 .1) _ _ _ (c-loop .inv) (c-loop-test .taken) _ (c-wide .ensures .0) _ (c .before .latest .ensures), c .time-of .ensures .2)
 
 mul-finish : tie.Need-mul-finish Inv-loop μ-loop
-mul-finish c =
-    let c-pre = c .before .before .before .before .before .before .before .before .pre in
-    let c-loop = c .before .before .before .before .before .before .loop in
-    let c-loop-test = c .before .before .before .before .before .loop-test in
-    let c-wide = c .before .before .before .wide in
-    omega (arith, entry-small _ _ _ (c-pre .0 .0) (c-pre .1 .1) _ _ _ (c-loop .inv) (c-loop-test .taken) _ (c-wide .ensures .0))
+mul-finish c = omega (arith, entry-in (c .before .before .before))
 
 array-write-finish : tie.Need-array-write-finish Inv-loop μ-loop
-array-write-finish c =
-    let c-pre = c .before .before .before .before .before .before .before .before .pre in
-    let c-loop = c .before .before .before .before .before .before .loop in
-    let c-loop-test = c .before .before .before .before .before .loop-test in
-    let c-wide = c .before .before .before .wide in
-    entry-small _ _ _ (c-pre .0 .0) (c-pre .1 .1) _ _ _ (c-loop .inv) (c-loop-test .taken) _ (c-wide .ensures .0) .1
+array-write-finish c = entry-in (c .before .before .before)
 
 larger-requires : tie.Need-larger-requires Inv-loop μ-loop
 larger-requires c κs = search needs
 
 add-j : tie.Need-add-j Inv-loop μ-loop
-add-j c =
-    let c-pre = c .before .before .before .before .before .before .before .before .before .pre in
-    let c-loop = c .before .before .before .before .before .before .before .loop in
-    let c-loop-test = c .before .before .before .before .before .before .loop-test in
-    let c-wide = c .before .before .before .before .wide in
-    omega (arith, entry-small _ _ _ (c-pre .0 .0) (c-pre .1 .1) _ _ _ (c-loop .inv) (c-loop-test .taken) _ (c-wide .ensures .0))
+add-j c = omega (arith, place-in (c .before .before .before .before .before .before))
 
 loop-less : tie.Need-loop-less Inv-loop μ-loop
 loop-less c = omega arith

@@ -4,13 +4,16 @@ use Prim.Native.Nat.{_-_, _≤_, _<_}
 use native.Mathlib.Omega.{arith}
 use lib.ListN.{length}
 use denote.Ref.{now}
-use Rattle.listplan.specs.Tables.{Chains, Tally}
-use Rattle.listplan.proofs.Chained.{chains-none, chains-more, tally-none, tally-small, tally-more}
+use Rattle.terms.specs.Graphs.{fromOf}
+use Rattle.graph.specs.Chains.{Chains}
+use Rattle.graph.proofs.Chained.{chains-none, chains-more}
+use Rattle.listplan.specs.Tables.{Tally}
+use Rattle.listplan.proofs.Tallied.{tally-none, tally-small, tally-more}
 use Rattle.listplan.proofs.prepare.chain.Statement.{statement}
 use Rattle.listplan.proofs.prepare.chain.Tie as tie
 
 abbrev Inv-loop : tie.InvT-loop
-Inv-loop arrows first₀ next₀ left₀ i₀ first next left i = (i ≤ length arrows) × Chains arrows first next i × Tally arrows left i
+Inv-loop arrows first₀ next₀ left₀ i₀ first next left i = (i ≤ length arrows) × Chains (fromOf arrows) first next i × Tally arrows left i
 
 abbrev μ-loop : tie.MeasureT-loop
 μ-loop arrows first₀ next₀ left₀ i₀ first next left i = length arrows - i

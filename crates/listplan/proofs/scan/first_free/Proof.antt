@@ -1,13 +1,13 @@
 -- `first_free`: the first processor that nobody is on. Assumes nothing.
 use Prim.Native.Nat.{_-_}
 use native.Mathlib.Omega.{arith}
-use Rattle.listplan.specs.Making.{AllBusy}
-use Rattle.listplan.proofs.Scanned.{all-busy-more, first-free-here, first-free-none}
+use Rattle.listplan.specs.Making.{NoneSo, IsFree}
+use Rattle.listplan.proofs.Scanned.{none-more, first-here, first-none}
 use Rattle.listplan.proofs.scan.first_free.Statement.{statement}
 use Rattle.listplan.proofs.scan.first_free.Tie as tie
 
 abbrev Inv-loop : tie.InvT-loop
-Inv-loop who m from q₀ q = AllBusy who m q
+Inv-loop who m from q₀ q = NoneSo (IsFree who) m q
 
 abbrev μ-loop : tie.MeasureT-loop
 μ-loop who m from q₀ q = m - q
@@ -16,19 +16,15 @@ loop-holds : tie.Need-loop-holds Inv-loop μ-loop
 loop-holds c = c .pre .2
 
 mul-if1 : tie.Need-mul-if1 Inv-loop μ-loop
-mul-if1 c =
-    let c-pre = c .before .before .pre in
-    omega (arith, c-pre .0 .high)
+mul-if1 c = omega (arith, c .before .before .pre .0 .high)
 
 element-copy-out-if1 : tie.Need-element-copy-out-if1 Inv-loop μ-loop
-element-copy-out-if1 c =
-    let c-pre = c .before .before .pre in
-    omega (arith, c-pre .0 .high)
+element-copy-out-if1 c = omega (arith, c .before .before .pre .0 .high)
 
 returns : tie.Need-returns Inv-loop μ-loop
 returns c =
     let c-loop = c .before .before .before .loop in
-    first-free-here (c-loop .inv) (c .if1 .taken)
+    first-here (c-loop .inv) (c .if1 .taken)
 
 add-q : tie.Need-add-q Inv-loop μ-loop
 add-q c = omega arith
@@ -40,12 +36,12 @@ loop-again : tie.Need-loop-again Inv-loop μ-loop
 loop-again c =
     let c-loop = c .before .before .before .loop in
     let c-loop-test = c .before .before .loop-test in
-    all-busy-more (c-loop .inv) (c-loop-test .taken) (c .if1 .left)
+    none-more (c-loop .inv) (c-loop-test .taken) (c .if1 .left)
 
 returns-2 : tie.Need-returns-2 Inv-loop μ-loop
 returns-2 c =
     let c-loop = c .before .loop in
-    first-free-none (c-loop .inv) (c .loop-test .left)
+    first-none (c-loop .inv) (c .loop-test .left)
 
 pub first-free-spec : {M : Type 1} → statement M
 first-free-spec =

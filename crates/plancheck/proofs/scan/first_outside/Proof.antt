@@ -12,10 +12,13 @@ use Rattle.plancheck.proofs.scan.first_outside.Statement.{statement}
 use Rattle.plancheck.proofs.scan.first_outside.Tie as tie
 
 abbrev Inv-loop : tie.InvT-loop
-Inv-loop procs m j₀ j = (j ≤ length procs) × NoneTo (λ k. ¬ Among 1 m (itemOf procs k)) j
+Inv-loop procs m most j₀ j = (j ≤ length procs) × NoneTo (λ k. ¬ Among 1 m (itemOf procs k)) j
 
 abbrev μ-loop : tie.MeasureT-loop
-μ-loop procs m j₀ j = length procs - j
+μ-loop procs m most j₀ j = length procs - j
+
+index-requires : tie.Need-index-requires Inv-loop μ-loop
+index-requires c κs = search needs
 
 loop-holds : tie.Need-loop-holds Inv-loop μ-loop
 loop-holds c = (omega arith, λ k l. absurd (omega arith))
@@ -36,7 +39,8 @@ returns-2 : tie.Need-returns-2 Inv-loop μ-loop
 returns-2 c =
     let c-loop-test = c .before .before .before .loop-test in
     let c-loop = c .before .before .before .before .loop in
-    first-here _ _ _ (c-loop-test .taken) (c-loop .inv .1) (λ h. omega (arith, h .high))
+    let c-index = c .before .before .before .before .before .index in
+    first-here _ _ _ (c-loop-test .taken) (c-loop .inv .1) (λ h. omega (arith, h .high, c-index .ensures))
 
 loop-less : tie.Need-loop-less Inv-loop μ-loop
 loop-less c = search needs
@@ -44,7 +48,8 @@ loop-less c = search needs
 loop-again : tie.Need-loop-again Inv-loop μ-loop
 loop-again c =
     let c-loop = c .before .before .before .before .loop in
-    (omega arith, below-more _ _ (c-loop .inv .1) (λ h. h (record { low = omega arith; high = omega arith })))
+    let c-index = c .before .before .before .before .before .index in
+    (omega arith, below-more _ _ (c-loop .inv .1) (λ h. h (record { low = omega arith; high = omega (arith, c-index .ensures) })))
 
 returns-3 : tie.Need-returns-3 Inv-loop μ-loop
 returns-3 c =
@@ -57,6 +62,7 @@ first-outside-spec =
     (tie.spec
     Inv-loop
     μ-loop
+    index-requires
     loop-holds
     add-j
     processor-of-requires

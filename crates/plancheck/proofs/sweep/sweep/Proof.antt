@@ -1,5 +1,4 @@
 -- `sweep`: a sweep that comes to its end shows that nothing clashes and nothing idles. Assumes nothing.
-use mathlib.Core.Path.{_∙_}
 use Prim.Native.Nat.{_-_}
 use native.Mathlib.Omega.{arith}
 use lib.ListN.{length}
@@ -46,36 +45,33 @@ processor-of-requires c κs =
     let c-pre = c .before .before .before .before .before .before .before .before .before .before .pre in
     (omega arith, omega (arith, c-pre .0 .long-P))
 
-index-requires : tie.Need-index-requires Inv-loop μ-loop
-index-requires c κs = search needs
-
 mul-if3 : tie.Need-mul-if3 Inv-loop μ-loop
 mul-if3 c =
-    let c-pre = c .before .before .before .before .before .before .before .before .before .before .before .before .pre in
-    let room = until-room (c-pre .0) (record { low = omega arith; high = omega arith }) (c .index .ensures ∙ c .before .processor-of .ensures) in omega arith
+    let c-pre = c .before .before .before .before .before .before .before .before .before .before .before .pre in
+    let room = until-room (c-pre .0) (record { low = omega arith; high = omega arith }) (c .processor-of .ensures) in omega arith
 
 array-read-if3 : tie.Need-array-read-if3 Inv-loop μ-loop
 array-read-if3 c =
-    let c-pre = c .before .before .before .before .before .before .before .before .before .before .before .before .pre in
-    until-room (c-pre .0) (record { low = omega arith; high = omega arith }) (c .index .ensures ∙ c .before .processor-of .ensures)
+    let c-pre = c .before .before .before .before .before .before .before .before .before .before .before .pre in
+    until-room (c-pre .0) (record { low = omega arith; high = omega arith }) (c .processor-of .ensures)
 
 returns-3 : tie.Need-returns-3 Inv-loop μ-loop
 returns-3 c = tt
 
 slack-at-requires : tie.Need-slack-at-requires Inv-loop μ-loop
 slack-at-requires c κs =
-    let c-loop = c .before .before .before .before .before .before .before .before .before .before .loop in
-    let c-pre = c .before .before .before .before .before .before .before .before .before .before .before .before .before .before .pre in
+    let c-loop = c .before .before .before .before .before .before .before .before .before .loop in
+    let c-pre = c .before .before .before .before .before .before .before .before .before .before .before .before .before .pre in
     (c-loop .inv .long, c-pre .0 .processors)
 
 mul-if4 : tie.Need-mul-if4 Inv-loop μ-loop
 mul-if4 c =
-    let c-pre = c .before .before .before .before .before .before .before .before .before .before .before .before .before .before .before .pre in
+    let c-pre = c .before .before .before .before .before .before .before .before .before .before .before .before .before .before .pre in
     omega (arith, c-pre .0 .timed .few, c-pre .0 .long-ready)
 
 element-copy-out-if4 : tie.Need-element-copy-out-if4 Inv-loop μ-loop
 element-copy-out-if4 c =
-    let c-pre = c .before .before .before .before .before .before .before .before .before .before .before .before .before .before .before .pre in
+    let c-pre = c .before .before .before .before .before .before .before .before .before .before .before .before .before .before .pre in
     omega (arith, c-pre .0 .timed .few, c-pre .0 .long-ready)
 
 returns-4 : tie.Need-returns-4 Inv-loop μ-loop
@@ -83,22 +79,20 @@ returns-4 c = tt
 
 end-of-requires : tie.Need-end-of-requires Inv-loop μ-loop
 end-of-requires c κs =
-    let c-pre = c .before .before .before .before .before .before .before .before .before .before .before .before .before .before .before .before .before .pre in
+    let c-pre = c .before .before .before .before .before .before .before .before .before .before .before .before .before .before .before .before .pre in
     (record { low = omega arith; high = omega arith }, c-pre .0 .timed)
 
 mul-until : tie.Need-mul-until Inv-loop μ-loop
 mul-until c =
-    let c-pre = c .before .before .before .before .before .before .before .before .before .before .before .before .before .before .before .before .before .before .pre in
-    let c-index = c .before .before .before .before .before .before .index in
-    let c-processor-of = c .before .before .before .before .before .before .before .processor-of in
-    let room = until-room (c-pre .0) (record { low = omega arith; high = omega arith }) (c-index .ensures ∙ c-processor-of .ensures) in omega arith
+    let c-pre = c .before .before .before .before .before .before .before .before .before .before .before .before .before .before .before .before .before .pre in
+    let c-processor-of = c .before .before .before .before .before .before .processor-of in
+    let room = until-room (c-pre .0) (record { low = omega arith; high = omega arith }) (c-processor-of .ensures) in omega arith
 
 array-write-until : tie.Need-array-write-until Inv-loop μ-loop
 array-write-until c =
-    let c-pre = c .before .before .before .before .before .before .before .before .before .before .before .before .before .before .before .before .before .before .pre in
-    let c-index = c .before .before .before .before .before .before .index in
-    let c-processor-of = c .before .before .before .before .before .before .before .processor-of in
-    until-room (c-pre .0) (record { low = omega arith; high = omega arith }) (c-index .ensures ∙ c-processor-of .ensures)
+    let c-pre = c .before .before .before .before .before .before .before .before .before .before .before .before .before .before .before .before .before .pre in
+    let c-processor-of = c .before .before .before .before .before .before .processor-of in
+    until-room (c-pre .0) (record { low = omega arith; high = omega arith }) (c-processor-of .ensures)
 
 add-x : tie.Need-add-x Inv-loop μ-loop
 add-x c = search needs
@@ -108,18 +102,17 @@ loop-less c = search needs
 
 loop-again : tie.Need-loop-again Inv-loop μ-loop
 loop-again c =
-    let c-pre = c .before .before .before .before .before .before .before .before .before .before .before .before .before .before .before .before .before .before .pre in
-    let c-loop = c .before .before .before .before .before .before .before .before .before .before .before .before .before .before .loop in
-    let c-loop-test = c .before .before .before .before .before .before .before .before .before .before .before .before .before .loop-test in
-    let c-subtask-in = c .before .before .before .before .before .before .before .before .before .before .before .subtask-in in
-    let c-if1 = c .before .before .before .before .before .before .before .before .before .before .if1 in
-    let c-start-of = c .before .before .before .before .before .before .before .before .before .start-of in
-    let c-if2 = c .before .before .before .before .before .before .before .before .if2 in
-    let c-index = c .before .before .before .before .before .before .index in
-    let c-processor-of = c .before .before .before .before .before .before .before .processor-of in
+    let c-pre = c .before .before .before .before .before .before .before .before .before .before .before .before .before .before .before .before .before .pre in
+    let c-loop = c .before .before .before .before .before .before .before .before .before .before .before .before .before .loop in
+    let c-loop-test = c .before .before .before .before .before .before .before .before .before .before .before .before .loop-test in
+    let c-subtask-in = c .before .before .before .before .before .before .before .before .before .before .subtask-in in
+    let c-if1 = c .before .before .before .before .before .before .before .before .before .if1 in
+    let c-start-of = c .before .before .before .before .before .before .before .before .start-of in
+    let c-if2 = c .before .before .before .before .before .before .before .if2 in
+    let c-processor-of = c .before .before .before .before .before .before .processor-of in
     let c-if3 = c .before .before .before .before .before .if3 in
     let c-slack-at = c .before .before .before .slack-at in
-    swept-more (c-pre .0) (c-loop .inv) (c-loop-test .taken) (nth-is _ _ _ (c-subtask-in .ensures)) (c-if1 .left) (c-start-of .ensures) (c-if2 .left) (c-index .ensures ∙ c-processor-of .ensures) (c-if3 .left) (c-slack-at .ensures) (c .before .if4 .left) (c .end-of .ensures)
+    swept-more (c-pre .0) (c-loop .inv) (c-loop-test .taken) (nth-is _ _ _ (c-subtask-in .ensures)) (c-if1 .left) (c-start-of .ensures) (c-if2 .left) (c-processor-of .ensures) (c-if3 .left) (c-slack-at .ensures) (c .before .if4 .left) (c .end-of .ensures)
 
 returns-5 : tie.Need-returns-5 Inv-loop μ-loop
 returns-5 c =
@@ -141,7 +134,6 @@ sweep-spec =
     start-of-requires
     returns-2
     processor-of-requires
-    index-requires
     mul-if3
     array-read-if3
     returns-3
