@@ -86,71 +86,98 @@ fn at(processor: u8, start: u32) -> Entry {
     }
 }
 
-// A plan of one entry, and one of two.
-fn check_one(times: &[u16], arrows: &[[u16; 2]], m: u32, entry: Entry) -> PlanEnd {
-    check_row(times, arrows, m, [entry; 256], 1)
+// C and P.
+fn measured(times: &[u16], arrows: &[[u16; 2]]) {
+    print_amount(total_work(times, arrows));
+    print_amount(longest_path(times, arrows));
 }
 
-fn check_pair(times: &[u16], arrows: &[[u16; 2]], m: u32, first: Entry, second: Entry) -> PlanEnd {
-    let mut table = [first; 256];
-    table[1] = second;
-    check_row(times, arrows, m, table, 2)
+// The answer to a deadline question.
+fn judged(times: &[u16], arrows: &[[u16; 2]], m: u32, d: u32) {
+    print_answer(judge(times, arrows, m, d));
 }
 
 // The end of the list plan, for a row of so many entries.
-fn end_of_list(times: &[u16], arrows: &[[u16; 2]], m: u32, order: &[u16], room: usize) -> PlanEnd {
+fn listed(times: &[u16], arrows: &[[u16; 2]], m: u32, order: &[u16], room: usize) {
     let listed = list_row(times, arrows, m, order, [at(0, 0); 256], room);
-    listed.reply
+    let reply = listed.reply;
+    print_end(reply);
 }
 
-// Examples 1 to 4 and 5: G, with one processor more, every time shorter by 1, and two arrows fewer.
+// The check of a plan of two entries, and of one.
+fn checked(times: &[u16], arrows: &[[u16; 2]], m: u32, first: Entry, second: Entry) {
+    let mut table = [first; 256];
+    table[1] = second;
+    print_end(check_row(times, arrows, m, table, 2));
+}
+
+fn checked_alone(times: &[u16], arrows: &[[u16; 2]], m: u32, entry: Entry) {
+    print_end(check_row(times, arrows, m, [entry; 256], 1));
+}
+
+// Example 2: every time of G shorter by 1.
+fn shorter_g(arrows: &[[u16; 2]], order: &[u16]) {
+    let times = [2u16, 1, 1, 1, 3, 3, 3, 3, 8];
+    print(b"\n2:");
+    measured(&times, arrows);
+    judged(&times, arrows, 3, 15);
+    listed(&times, arrows, 3, order, 9);
+}
+
+// Example 4: G with two arrows fewer.
+fn fewer_arrows(times: &[u16], order: &[u16]) {
+    let arrows = [[1u16, 9], [4, 7], [4, 8]];
+    print(b"\n4:");
+    listed(times, &arrows, 3, order, 9);
+}
+
+// Examples 1 to 5, around G.
+fn around_g(times: &[u16], arrows: &[[u16; 2]], order: &[u16]) {
+    print(b"1:");
+    measured(times, arrows);
+    listed(times, arrows, 3, order, 9);
+    shorter_g(arrows, order);
+    print(b"\n3:");
+    judged(times, arrows, 4, 18);
+    listed(times, arrows, 4, order, 9);
+    fewer_arrows(times, order);
+    print(b"\n5:");
+    judged(times, arrows, 3, 20);
+    judged(times, arrows, 3, 19);
+}
+
 fn graph_g() {
     let times = [3u16, 2, 2, 2, 4, 4, 4, 4, 9];
-    let shorter = [2u16, 1, 1, 1, 3, 3, 3, 3, 8];
     let arrows = [[1u16, 9], [4, 5], [4, 6], [4, 7], [4, 8]];
-    let fewer = [[1u16, 9], [4, 7], [4, 8]];
     let order = [1u16, 2, 3, 4, 5, 6, 7, 8, 9];
-    print(b"1:");
-    print_amount(total_work(&times, &arrows));
-    print_amount(longest_path(&times, &arrows));
-    print_end(end_of_list(&times, &arrows, 3, &order, 9));
-    print(b"\n2:");
-    print_amount(total_work(&shorter, &arrows));
-    print_amount(longest_path(&shorter, &arrows));
-    print_answer(judge(&shorter, &arrows, 3, 15));
-    print_end(end_of_list(&shorter, &arrows, 3, &order, 9));
-    print(b"\n3:");
-    print_answer(judge(&times, &arrows, 4, 18));
-    print_end(end_of_list(&times, &arrows, 4, &order, 9));
-    print(b"\n4:");
-    print_end(end_of_list(&times, &fewer, 3, &order, 9));
-    print(b"\n5:");
-    print_answer(judge(&times, &arrows, 3, 20));
-    print_answer(judge(&times, &arrows, 3, 19));
+    around_g(&times, &arrows, &order);
 }
 
-// Examples 6 to 10.
-fn small_graphs() {
-    let fives = [5u16, 5];
-    let none = [[0u16; 2]; 0];
+// Examples 6 and 7.
+fn small_verdicts(fives: &[u16], none: &[[u16; 2]]) {
     print(b"\n6:");
-    print_answer(judge(&fives, &none, 2, 8));
-    print_answer(judge(&fives, &none, 2, 7));
+    judged(fives, none, 2, 8);
+    judged(fives, none, 2, 7);
     print(b"\n7:");
-    print_answer(judge(&[1], &none, 16, 1));
-    let pair = [3u16, 4];
-    let arrow = [[1u16, 2]];
+    judged(&[1], none, 16, 1);
+}
+
+// Example 8.
+fn one_arrow(pair: &[u16], arrow: &[[u16; 2]]) {
     print(b"\n8:");
-    print_amount(total_work(&pair, &arrow));
-    print_amount(longest_path(&pair, &arrow));
-    print_answer(judge(&pair, &arrow, 2, 7));
-    print_end(check_pair(&pair, &arrow, 2, at(1, 0), at(1, 3)));
-    print_end(check_pair(&pair, &arrow, 2, at(1, 0), at(1, 2)));
+    measured(pair, arrow);
+    judged(pair, arrow, 2, 7);
+    checked(pair, arrow, 2, at(1, 0), at(1, 3));
+    checked(pair, arrow, 2, at(1, 0), at(1, 2));
+}
+
+// Examples 9 and 10.
+fn small_plans(fives: &[u16], none: &[[u16; 2]]) {
     print(b"\n9:");
-    print_end(check_one(&[3], &none, 1, at(1, 1)));
+    checked_alone(&[3], none, 1, at(1, 1));
     print(b"\n10:");
-    print_end(check_pair(&fives, &none, 2, at(1, 0), at(1, 5)));
-    print_end(check_pair(&fives, &none, 1, at(1, 0), at(1, 5)));
+    checked(fives, none, 2, at(1, 0), at(1, 5));
+    checked(fives, none, 1, at(1, 0), at(1, 5));
 }
 
 // The arrows of 256 subtasks in one chain.
@@ -166,12 +193,16 @@ fn chain() -> [[u16; 2]; 255]
     arrows
 }
 
-// Examples 11 and 12.
-fn limits() {
+// Example 11.
+fn longest_chain() {
     let times = [65535u16; 256];
     let arrows = chain();
     print(b"\n11:");
-    print_answer(judge(&times, &arrows, 16, 1000000));
+    judged(&times, &arrows, 16, 1000000);
+}
+
+// Example 12.
+fn refused_graphs() {
     print(b"\n12:");
     print_amount(longest_path(&[1, 1], &[[1, 2], [2, 1]]));
     let none = [0u16; 0];
@@ -179,33 +210,38 @@ fn limits() {
     print_amount(total_work(&[1, 1], &[[1, 1], [1, 1]]));
 }
 
-// The refusals that neither the texts nor the examples meet.
-fn refusals() {
-    let fives = [5u16, 5];
-    let none = [[0u16; 2]; 0];
-    let order = [1u16, 2];
+// The refusals that neither the texts nor the examples meet: those of a question,
+fn refused_questions(fives: &[u16], none: &[[u16; 2]]) {
     print(b"\n8:");
-    print_answer(judge(&fives, &none, 17, 8));
+    judged(fives, none, 17, 8);
     print(b"\n9:");
-    print_answer(judge(&fives, &none, 2, 0));
+    judged(fives, none, 2, 0);
     print(b"\n10:");
-    print_end(end_of_list(&fives, &none, 2, &[1, 1], 2));
+    listed(fives, none, 2, &[1, 1], 2);
     print(b"\n11:");
-    print_end(end_of_list(&fives, &none, 2, &order, 1));
+    listed(fives, none, 2, &[1, 2], 1);
+}
+
+// of a row that is too short to be read into,
+fn refused_rows() {
     let mut times = [7u16; 255];
     let mut arrows = [[7u16; 2]; 2048];
     match read_stg(b"1\n0 0 0\n1 5 0\n2 0 0\n", &mut times, &mut arrows) {
         Counts::Refused(refusal) => print_refusal(refusal),
         Counts::Read(_) => print(b" read"),
     }
+}
+
+// and of a plan.
+fn refused_plans(fives: &[u16], none: &[[u16; 2]]) {
     print(b"\n12:");
-    print_end(check_one(&fives, &none, 2, at(1, 0)));
+    checked_alone(fives, none, 2, at(1, 0));
     print(b"\n13:");
-    print_end(check_pair(&fives, &none, 2, at(1, 0), at(3, 0)));
+    checked(fives, none, 2, at(1, 0), at(3, 0));
     print(b"\n14:");
-    print_end(check_pair(&fives, &none, 2, at(1, 0), at(2, 16776961)));
+    checked(fives, none, 2, at(1, 0), at(2, 16776961));
     print(b"\n16:");
-    print_end(check_pair(&fives, &none, 2, at(1, 0), at(1, 4)));
+    checked(fives, none, 2, at(1, 0), at(1, 4));
     print(b"\n");
 }
 
@@ -217,10 +253,17 @@ fn next_piece() {
 }
 
 fn main() {
+    let fives = [5u16, 5];
+    let none = [[0u16; 2]; 0];
     graph_g();
-    small_graphs();
-    limits();
+    small_verdicts(&fives, &none);
+    one_arrow(&[3, 4], &[[1, 2]]);
+    small_plans(&fives, &none);
+    longest_chain();
+    refused_graphs();
     print(b"\nrefusals");
-    refusals();
+    refused_questions(&fives, &none);
+    refused_rows();
+    refused_plans(&fives, &none);
     next_piece();
 }

@@ -5,6 +5,7 @@ pub mod LinedUp
 pub mod Scanned
 pub mod Countdown
 pub mod Ready
+pub mod Turn
 pub mod Placing
 pub mod Releasing
 pub mod Counting

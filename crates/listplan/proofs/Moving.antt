@@ -15,7 +15,8 @@ use Rattle.theory.proofs.Clock.{jump}
 use Rattle.entries.specs.Entries.{entries, itemOf}
 use Rattle.entries.proofs.Entered.{entries-processor, entries-end, entries-none}
 use Rattle.listplan.specs.Tables.{Tally, Sources, Grouped}
-use Rattle.listplan.specs.Making.{never, Job, Unended, waits, runs, Holding, unended, Making, NoneSo, FirstSo, IsMarked, IsFree, IsDue, Soonest, Turn}
+use Rattle.listplan.specs.Making.{never, Job, Unended, waits, runs, Holding, unended, Making, NoneSo, FirstSo, IsMarked, IsFree, IsDue, Soonest}
+use Rattle.listplan.proofs.Turn.{Turn}
 use Rattle.listplan.proofs.Items.{read-noughts}
 use Rattle.listplan.proofs.Scanned.{none-yet}
 use Rattle.listplan.proofs.Counts.{count-same, count-none, count-some}

@@ -11,7 +11,8 @@ use Rattle.terms.specs.ListRule.{Goes, ByRule, goes}
 use Rattle.entries.specs.Entries.{entries, itemOf, finishOf}
 use Rattle.entries.proofs.Entered.{entries-put}
 use Rattle.listplan.specs.Tables.{Grouped}
-use Rattle.listplan.specs.Making.{never, Job, Unended, waits, runs, Holding, unended, uncounted, Open, Holders, Lefts, Marks, Making, FirstSo, IsMarked, IsFree, Turn}
+use Rattle.listplan.specs.Making.{never, Job, Unended, waits, runs, Holding, unended, uncounted, Open, Holders, Lefts, Marks, Making, FirstSo, IsMarked, IsFree}
+use Rattle.listplan.proofs.Turn.{Turn}
 use Rattle.graph.proofs.Stores.{read-set}
 use Rattle.listplan.proofs.Items.{item-same, item-other, finish-same, finish-other}
 use Rattle.listplan.proofs.Counts.{count-same}

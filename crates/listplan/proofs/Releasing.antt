@@ -10,7 +10,8 @@ use Rattle.terms.specs.Graphs.{IsSubtask, fromOf}
 use Rattle.entries.specs.Entries.{itemOf, finishOf}
 use Rattle.graph.specs.Chains.{Last}
 use Rattle.listplan.specs.Tables.{Grouped}
-use Rattle.listplan.specs.Making.{never, Job, Unended, waits, runs, Holding, unended, uncounted, Making, NoneSo, FirstSo, IsMarked, IsDue, Turn}
+use Rattle.listplan.specs.Making.{never, Job, Unended, waits, runs, Holding, unended, uncounted, Making, NoneSo, FirstSo, IsMarked, IsDue}
+use Rattle.listplan.proofs.Turn.{Turn}
 use Rattle.graph.proofs.Stores.{read-set}
 use Rattle.listplan.proofs.Scanned.{none-yet}
 use Rattle.listplan.proofs.Counts.{count-same}

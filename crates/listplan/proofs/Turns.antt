@@ -12,7 +12,8 @@ use Rattle.terms.specs.Plans.{IdleAt}
 use Rattle.terms.specs.ListRule.{IsListPlan}
 use Rattle.entries.specs.Entries.{entries, itemOf}
 use Rattle.listplan.specs.Tables.{Grouped}
-use Rattle.listplan.specs.Making.{never, Job, Making, NoneSo, FirstSo, IsMarked, IsFree, IsDue, ToGo, Soonest, Turn, CountedOff}
+use Rattle.listplan.specs.Making.{never, Job, Making, NoneSo, FirstSo, IsMarked, IsFree, IsDue, ToGo, Soonest, CountedOff}
+use Rattle.listplan.proofs.Turn.{Turn}
 use Rattle.listplan.proofs.Counts.{noughts, noughts-most, noughts-filled, noughts-emptied, total-set}
 use Rattle.listplan.proofs.Ready.{still}
 use Rattle.listplan.proofs.Placing.{placed, opened}

@@ -11,7 +11,7 @@ use Rattle.terms.specs.ListRule.{IsOrder, ByRule}
 use Rattle.theory.specs.Sound.{SoundGraph}
 use Rattle.entries.specs.Entries.{entries, itemOf, finishOf}
 use Rattle.graph.specs.Chains.{Chains}
-use Rattle.listplan.specs.Tables.{Count, Ranks, Grouped, MarkedIf}
+use Rattle.listplan.specs.Tables.{Count, Ranks, MarkedIf}
 
 -- the end of a processor that nobody is on
 abbrev pub never : ℕ
@@ -114,14 +114,6 @@ pub record ToGo (R : List ℕ) (M q n x : ℕ) : Type 0 where
 pub record Soonest (U : List ℕ) (M e : ℕ) : Type 0 where
   pub least : (k : ℕ) → k < M → e ≤ getD U k 0
   pub reached : e ≢ never → (k : ℕ) × (k < M) × (getD U k 0 ≡ e)
-
--- what holds at each turn of the loop that makes the plan
-pub record Turn (times : List ℕ) (arrows : List (List ℕ)) (order : List ℕ) (M t c : ℕ) (L R G U W P S : List ℕ) (p q low : ℕ) : Type 0 where
-  pub making : Making times arrows order M t c L R U W P S
-  pub grouped : Grouped R G
-  pub unmarked : NoneSo (IsMarked R) (length order) low
-  pub due : FirstSo (IsDue U t) M p
-  pub busy : NoneSo (IsFree W) M q
 
 -- The arrow at place a is counted off: one fewer holds its `to` back, and where it was the last one, the place of `to` in the order is marked.
 -- low′ is the smaller of low and the place that was marked.

@@ -10,7 +10,7 @@ use Rattle.terms.specs.Rows.{Row, row, Answered}
 use Rattle.terms.specs.Graphs.{Among, IsSubtask, In16Bits, fromOf, Precedes}
 use Rattle.terms.specs.Plans.{processorOf, startOf, endOf, Placed, RunsAt, ReadyAt, IdleAt}
 use Rattle.terms.specs.Refusals.{SomeSubtask, StartsEarly, Share, graphRows, processorsRow, planRows, checkRows}
-use Rattle.theory.specs.Sound.{SoundPlan, BusyPlan}
+use Rattle.theory.proofs.SoundPlans.{SoundPlan, BusyPlan}
 use Rattle.theory.proofs.Answers.{accepted-first}
 use Rattle.terms.proofs.Decide.{decAmong, undenied}
 use Rattle.theory.proofs.Accepted.{graph-numbered, accepted-graph, accepted-plan, from-subtask, to-subtask}
@@ -20,11 +20,19 @@ use Rattle.theory.proofs.Instants.{idle-at-event}
 use Rattle.entries.specs.Entries.{entries, itemOf, finishOf}
 use Rattle.entries.proofs.Entered.{entries-length, entries-processor, entries-start, entries-end}
 use Rattle.plancheck.specs.declared.Pair.{Pair}
-use Rattle.plancheck.specs.Known.{Given, Timed, LatestEnds, Prepared}
+use Rattle.plancheck.specs.Known.{Given, Timed, LatestEnds}
 use Rattle.plancheck.specs.Scans.{FirstSubtask, Clash, Clashes, FirstClash, runningAmong, Idles, Earliest}
 use Rattle.plancheck.specs.Sweeps.{Laid, Calm}
 use Rattle.plancheck.proofs.Firsts.{first-is, first-no}
 use Rattle.plancheck.proofs.Counts.{among-running}
+
+-- none of 1 to 8 and 12 to 15 holds
+pub record Prepared (times : List ℕ) (arrows : List (List ℕ)) (M : ℕ) (P S ready : List ℕ) : Type 0 where
+  pub given : Given times arrows M P S
+  pub placed : (j : ℕ) → IsSubtask times j → Among 1 M (itemOf P j)
+  pub timed : Timed times S
+  pub row : LatestEnds times arrows S (length arrows) ready
+  pub ordered : (j : ℕ) → IsSubtask times j → getD ready j 0 ≤ itemOf S j
 
 module _ {times : List ℕ} {arrows : List (List ℕ)} {M : ℕ} {P S : List ℕ} (given : Given times arrows M P S) where
   same : length P ≡ length S

@@ -29,11 +29,3 @@ pub record LatestEnd (times : List ℕ) (arrows : List (List ℕ)) (S : List ℕ
 pub record LatestEnds (times : List ℕ) (arrows : List (List ℕ)) (S : List ℕ) (k : ℕ) (ready : List ℕ) : Type 0 where
   pub long : length ready ≡ 257
   pub each : (j : ℕ) → j < 257 → LatestEnd times arrows S k j (getD ready j 0)
-
--- none of 1 to 8 and 12 to 15 holds
-pub record Prepared (times : List ℕ) (arrows : List (List ℕ)) (M : ℕ) (P S ready : List ℕ) : Type 0 where
-  pub given : Given times arrows M P S
-  pub placed : (j : ℕ) → IsSubtask times j → Among 1 M (itemOf P j)
-  pub timed : Timed times S
-  pub row : LatestEnds times arrows S (length arrows) ready
-  pub ordered : (j : ℕ) → IsSubtask times j → getD ready j 0 ≤ itemOf S j

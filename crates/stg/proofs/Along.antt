@@ -11,7 +11,8 @@ use lib.Seq.{sets}
 use lib.Dec.{ltb}
 use Rattle.terms.specs.Texts.{allPass, proper, numbers}
 use Rattle.terms.specs.Readings.{arrowsInto}
-use Rattle.text.specs.Standing.{line, later, Passed, Ended}
+use Rattle.text.specs.Rest.{line, later}
+use Rattle.text.proofs.Standing.{Passed, Ended}
 use Rattle.stg.specs.Told.{held, Added, PredecessorsAre}
 use Rattle.stg.proofs.OneArrow.{added-counts, added-holds, added-few}
 

@@ -11,7 +11,8 @@ use lib.Seq.{drop-cons, drop-drop}
 use Rattle.terms.specs.Texts.{allPass, begins, onto, isBlank, isField, value, lines, fields, proper, numbers, endsHere}
 use Rattle.terms.specs.Readings.{refuse, graph, mayFollow, trailer}
 use Rattle.text.specs.Steps.{lineSize}
-use Rattle.text.specs.Standing.{line, Ended}
+use Rattle.text.specs.Rest.{line}
+use Rattle.text.proofs.Standing.{Ended}
 use Rattle.text.proofs.Places.{size-within}
 use Rattle.text.proofs.Lines.{later-size, size-on}
 use Rattle.stg.specs.Told.{Follower}

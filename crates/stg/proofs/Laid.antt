@@ -10,7 +10,7 @@ use lib.ListN.{length, drop, set, length-append, length-map}
 use lib.Seq.{sets}
 use lib.Dec.{leb}
 use Rattle.terms.specs.Texts.{lines}
-use Rattle.text.specs.Standing.{line, later}
+use Rattle.text.specs.Rest.{line, later}
 use Rattle.terms.specs.Readings.{Reading, refuse, graph, need, isTask, timeIn, predecessorsIn, arrowsInto, withTask, taskLines, exitLine}
 use Rattle.stg.specs.Told.{hold, TaskIs, Fails, Rows, outcome, OneSubtask, AllSubtasks}
 use Rattle.stg.proofs.OneArrow.{sets-append, map-hold}

@@ -10,7 +10,8 @@ use lib.ListN.{length, getD, drop}
 use lib.Seq.{drop-cons}
 use Rattle.terms.specs.Texts.{allPass, lines, proper, numbers}
 use Rattle.terms.specs.Readings.{Reading, refuse, lineAtHand, linesAfter, isSize, isFirst, isShape, isTask, isEntryDummy, isExitDummy, predecessorsIn, trailer, exitLine, taskLines, entryLine, readLines}
-use Rattle.text.specs.Standing.{line, later, Ended, Passed}
+use Rattle.text.specs.Rest.{line, later}
+use Rattle.text.proofs.Standing.{Ended, Passed}
 use Rattle.text.proofs.Lines.{lines-cons}
 use Rattle.stg.specs.Told.{PredecessorsAre, PredecessorsOf, TaskIs, TaskOf, FirstIs, Dummy, dummy, DummyOf}
 use Rattle.stg.specs.declared.predecessors.Predecessors.{Predecessors}

@@ -8,7 +8,8 @@ use native.Mathlib.Omega.{arith}
 use lib.ListN.{length, drop}
 use denote.Enum.Declared.{tagOf}
 use Rattle.terms.specs.Texts.{proper, numbers}
-use Rattle.text.specs.Standing.{line, Stands}
+use Rattle.text.specs.Rest.{line}
+use Rattle.text.proofs.Standing.{Stands}
 use Rattle.text.specs.Steps.{nextNumber}
 use Rattle.text.specs.declared.Next.{Next}
 use Rattle.text.specs.declared.Next.the-variants as next

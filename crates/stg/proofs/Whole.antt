@@ -11,7 +11,7 @@ use Rattle.terms.specs.declared.Check.{Check}
 use Rattle.terms.specs.declared.Check.the-variants as check
 use Rattle.terms.specs.declared.Counts.the-variants as counts
 use Rattle.terms.specs.declared.Refusal.{Refusal}
-use Rattle.text.specs.Standing.{line, later}
+use Rattle.text.specs.Rest.{line, later}
 use Rattle.stg.specs.Told.{outcome, FirstIs, Dummy, dummy, AllSubtasks, Opened, closed, Leaves}
 use Rattle.stg.proofs.OneLine.{entry-line, exit-line}
 

@@ -13,7 +13,7 @@ use Rattle.terms.specs.declared.Check.{Check}
 use Rattle.terms.specs.declared.Check.the-variants as check
 use Rattle.terms.specs.declared.Counts.{Counts}
 use Rattle.terms.specs.declared.Counts.the-variants as counts
-use Rattle.text.specs.Standing.{line, later}
+use Rattle.text.specs.Rest.{line, later}
 use Rattle.stg.specs.declared.predecessors.Predecessors.{Predecessors}
 use Rattle.stg.specs.declared.predecessors.Predecessors.the-variants as predecessors
 use Rattle.stg.specs.declared.tasks.Task.{Task}

@@ -12,7 +12,7 @@ use borrow.Author.Tests.{eqb-true, ne-eqb, not-true}
 use Rattle.terms.specs.Texts.{allPass, isBlank, isDigit, isFeed, isReturn, begins, onto, lines, fields, isField, proper, numbers, endsHere, blanks, digits}
 use Rattle.text.proofs.Digits.{false-true, both, digit-bounds}
 use Rattle.text.specs.Steps.{lineSize}
-use Rattle.text.specs.Standing.{line, later}
+use Rattle.text.specs.Rest.{line, later}
 
 abbrev isInner : ℕ → Bool
 isInner b = not (isBlank b)

@@ -14,7 +14,8 @@ use Rattle.terms.specs.Texts.{allPass, isDigit, fields, isField, value, proper,
 use Rattle.text.specs.declared.Next.{Next}
 use Rattle.text.specs.declared.Next.the-variants as next
 use Rattle.text.specs.Steps.{lineSize, noNumber, nextAt, nextNumber}
-use Rattle.text.specs.Standing.{line, later, Ended, Stands}
+use Rattle.text.specs.Rest.{line, later}
+use Rattle.text.proofs.Standing.{Ended, Stands}
 use Rattle.text.proofs.Digits.{false-true}
 use Rattle.text.proofs.Places.{size-stop, blanks-within, digits-within, size-within}
 use Rattle.text.proofs.Lines.{fields-blanks, later-blanks, blanks-none, Run, run, FieldOrSpoilt, field-or-spoilt, line-off, spoilt, size-return, fields-none, proper-none, numbers-none, later-size, size-on}

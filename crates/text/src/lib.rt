@@ -140,8 +140,8 @@ fn no_number(text: &[u8], at: usize) -> Next
     Next::LineEnd(at + 2)
 }
 
-// What stands next on the line at `at`: the field is taken as a piece of the text, then read as a number. What follows it on the line
-// is for the next call, which meets what is no field either.
+// What stands next on the line at `at`: the field is taken as a piece of the text, then read as a number. What stands behind its digits is
+// met by the next call, also where it is neither a blank nor the line's end.
 pub fn next_number(text: &[u8], at: usize) -> Next
     ensures { λ r. ⌜ r ≡ nextNumber at (drop at (now (text .entry))) ⌝ }
 {

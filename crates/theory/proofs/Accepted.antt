@@ -13,7 +13,8 @@ use Rattle.terms.specs.ListRule.{IsOrder}
 use Rattle.terms.specs.Refusals.{timeAndArrowRows, graphRows, processorsRow, verdictRows, listRows, planRows, checkRows}
 use Rattle.terms.specs.declared.Entry.{Entry}
 use Rattle.terms.proofs.Decide.{decAmong, undenied}
-use Rattle.theory.specs.Sound.{SoundGraph, BusyPlan}
+use Rattle.theory.specs.Sound.{SoundGraph}
+use Rattle.theory.proofs.SoundPlans.{BusyPlan}
 use Rattle.theory.proofs.Answers.{Numbered, accepted-first, accepted-both}
 
 -- one row that does not hold, before rows that accept

@@ -14,7 +14,8 @@ use Rattle.terms.specs.Plans.{startOf, endOf, EndsAt, ReadyAt, FreeAt}
 use Rattle.terms.specs.Replies.{IsChecked}
 use Rattle.terms.specs.declared.Entry.{Entry}
 use Rattle.terms.specs.declared.PlanEnd.the-variants.{Ends}
-use Rattle.theory.specs.Sound.{SoundGraph, BusyPlan}
+use Rattle.theory.specs.Sound.{SoundGraph}
+use Rattle.theory.proofs.SoundPlans.{BusyPlan}
 use Rattle.theory.proofs.Accepted.{from-subtask, busy-plan}
 use Rattle.theory.proofs.Sums.{sum, sum-zero, sum-le, sum-add, sum-const, sum-scale, sum-mono, sum-upto, sum-cut, bit, bit-yes, bit-no, bit-le}
 use Rattle.theory.proofs.Search.{search, LastOrNone, last, strong}

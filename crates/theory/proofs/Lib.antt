@@ -4,6 +4,7 @@ pub mod Search
 pub mod Pigeonhole
 -- the table
 pub mod Answers
+pub mod SoundPlans
 pub mod Accepted
 pub mod ReadSizes
 -- graphs

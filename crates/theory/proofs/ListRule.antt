@@ -12,7 +12,8 @@ use Rattle.terms.specs.Paths.{totalWork}
 use Rattle.terms.specs.Plans.{notPlaced, processorOf, startOf, endOf, Placed, RunsAt, IdleAt}
 use Rattle.terms.specs.ListRule.{IsOrder, Goes, put, ByRule, begin, goes, tick, IsListPlan}
 use Rattle.terms.specs.declared.Entry.{Entry}
-use Rattle.theory.specs.Sound.{SoundGraph, BusyPlan}
+use Rattle.theory.specs.Sound.{SoundGraph}
+use Rattle.theory.proofs.SoundPlans.{BusyPlan}
 use Rattle.theory.proofs.Accepted.{from-subtask, to-subtask}
 use Rattle.theory.proofs.Sums.{sum, sum-le, sum-add, sum-const, sum-swap, bit, bit-yes, bit-no}
 use Rattle.theory.proofs.Work.{total-sum}

@@ -15,7 +15,8 @@ use Rattle.terms.specs.ListRule.{IsOrder}
 use Rattle.terms.specs.Refusals.{graphRows, listRows}
 use Rattle.terms.specs.declared.Entry.{Entry}
 use Rattle.terms.specs.declared.Figures.{Figures}
-use Rattle.theory.specs.Sound.{SoundGraph, BusyPlan}
+use Rattle.theory.specs.Sound.{SoundGraph}
+use Rattle.theory.proofs.SoundPlans.{BusyPlan}
 use Rattle.theory.proofs.Accepted.{accepted-graph, accepted-list}
 use Rattle.theory.proofs.Paths.{one-longest}
 

@@ -8,7 +8,8 @@ use lib.ListN.{length}
 use Rattle.terms.specs.Graphs.{Among, IsSubtask, timeOf, fromOf, toOf}
 use Rattle.terms.specs.Plans.{processorOf, startOf, endOf, Placed, RunsAt, ReadyAt, IdleAt}
 use Rattle.terms.specs.declared.Entry.{Entry}
-use Rattle.theory.specs.Sound.{SoundGraph, SoundPlan, BusyPlan}
+use Rattle.theory.specs.Sound.{SoundGraph}
+use Rattle.theory.proofs.SoundPlans.{SoundPlan, BusyPlan}
 use Rattle.theory.proofs.Running.{running, free-when-fewer, fewer-when-free}
 use Rattle.theory.proofs.Instants.{idle-at-event}
 

@@ -13,7 +13,7 @@ use Rattle.terms.specs.Plans.{processorOf, startOf, endOf, Placed, RunsAt, Free
 use Rattle.terms.specs.declared.Entry.{Entry}
 use Rattle.terms.proofs.Decide.{via, decSome}
 pub use Rattle.terms.proofs.Decide.{decRuns}
-use Rattle.theory.specs.Sound.{SoundPlan}
+use Rattle.theory.proofs.SoundPlans.{SoundPlan}
 use Rattle.theory.proofs.Sums.{sum, sum-zero, sum-le, sum-eq, sum-add, sum-const, sum-swap, sum-mono, bit, bit-yes, bit-no, bit-le, bit-one, bit-mono, sum-one, sum-lone, window, sum-term₁}
 use Rattle.theory.proofs.Search.{search}
 use Rattle.theory.proofs.Work.{total-sum}

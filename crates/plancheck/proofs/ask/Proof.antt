@@ -5,10 +5,9 @@ use native.Mathlib.Omega.{arith}
 use borrow.Author.Needs.{needs}
 use denote.Ref.{now}
 use Rattle.terms.specs.Graphs.{timeOf}
-use Rattle.plancheck.specs.Known.{Prepared}
 use Rattle.plancheck.specs.Sweeps.{Calm}
 use Rattle.plancheck.proofs.Swept.{shown}
-use Rattle.plancheck.proofs.Asked.{answer-13, placed-by, answer-14, timed-by, answer-15, prepared-by, answer-16, sound-pairs, answer-17, busy-instants, laid, busy-swept, answer-0}
+use Rattle.plancheck.proofs.Asked.{Prepared, answer-13, placed-by, answer-14, timed-by, answer-15, prepared-by, answer-16, sound-pairs, answer-17, busy-instants, laid, busy-swept, answer-0}
 use Rattle.plancheck.proofs.ask.Statement.{statement}
 use Rattle.plancheck.proofs.ask.Tie as tie
 

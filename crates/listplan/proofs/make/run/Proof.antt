@@ -3,7 +3,8 @@ use mathlib.Core.Path.{sym, _∙_}
 use Prim.Native.Nat.{_≤_, _<_}
 use native.Mathlib.Omega.{arith}
 use lib.ListN.{length-set}
-use Rattle.listplan.specs.Making.{NoneSo, IsMarked, Turn}
+use Rattle.listplan.specs.Making.{NoneSo, IsMarked}
+use Rattle.listplan.proofs.Turn.{Turn}
 use Rattle.graph.proofs.Ways.{both}
 use Rattle.listplan.proofs.Scanned.{none-yet}
 use Rattle.listplan.proofs.Moving.{first-turn}

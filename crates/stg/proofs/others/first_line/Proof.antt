@@ -1,7 +1,7 @@
 -- `first_line`: one number, of 1..256. Assumes nothing.
 use native.Mathlib.Omega.{arith}
 use borrow.Author.Needs.{needs}
-use Rattle.text.specs.Standing.{Passed, Ended}
+use Rattle.text.proofs.Standing.{Passed, Ended}
 use Rattle.stg.proofs.Seen.{seen, no-field, no-line-end}
 use Rattle.stg.proofs.OneLine.{first-none, first-more, first-low, first-high, first-is}
 use Rattle.stg.proofs.others.first_line.Statement.{statement}

@@ -4,7 +4,7 @@ use Prim.Native.Nat.{_-_}
 use native.Mathlib.Omega.{arith}
 use lib.ListN.{length}
 use borrow.Author.Needs.{needs}
-use Rattle.text.specs.Standing.{Passed}
+use Rattle.text.proofs.Standing.{Passed}
 use Rattle.stg.proofs.Seen.{seen}
 use Rattle.stg.proofs.Along.{Along, along-none, along-more, along-bad, along-end}
 use Rattle.stg.proofs.predecessors.take_predecessors.Statement.{statement}

@@ -1,7 +1,7 @@
 -- `task_line`: a line has the shape of a task's, or has not. Assumes nothing.
 use native.Mathlib.Omega.{arith}
 use borrow.Author.Needs.{needs}
-use Rattle.text.specs.Standing.{Passed}
+use Rattle.text.proofs.Standing.{Passed}
 use Rattle.stg.proofs.Seen.{seen, no-field}
 use Rattle.stg.proofs.OneLine.{Headed, headed, preceded, task-none, task-one, task-two, task-bad, task-other, task-miss, task-is}
 use Rattle.stg.proofs.tasks.task_line.Statement.{statement}

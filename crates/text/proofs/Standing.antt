@@ -1,21 +1,13 @@
--- The rest of the line at a place of a text, the lines after it, and what one step along the line says of them.
+-- What one step along a line says of the line and of the lines after it. Assumes nothing.
 use mathlib.Core.Path.{_≡_}
 use mathlib.Core.List.{List, [], _∷_}
-use mathlib.Core.Bool.{true, false, cond}
+use mathlib.Core.Bool.{true, false}
 use Prim.Native.Nat.{ℕ, _≤_, _<_}
 use lib.ListN.{length, drop}
-use Rattle.terms.specs.Texts.{isFeed, endsHere, lines, proper, numbers}
+use Rattle.terms.specs.Texts.{lines, proper, numbers}
+use Rattle.text.specs.Rest.{line, later}
 use Rattle.text.specs.declared.Next.{Next}
 use Rattle.text.specs.declared.Next.the-variants as next
-
--- the rest of the line, and the lines after it
-unfoldable pub line : List ℕ → List ℕ
-line [] = []
-line (b ∷ text) = cond (endsHere (b ∷ text)) [] (b ∷ line text)
-
-unfoldable pub later : List ℕ → List (List ℕ)
-later [] = []
-later (b ∷ text) = cond (isFeed b) (lines text) (later text)
 
 -- the line at hand has no further field, and the next line begins at e
 pub record Ended (text : List ℕ) (at e : ℕ) : Type 0 where
