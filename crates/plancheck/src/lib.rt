@@ -89,14 +89,6 @@ fn ask(times: &[u16], arrows: &[[u16; 2]], m: u32, procs: &[u8], starts: &[u32])
     0
 }
 
-// A number of 64 bits that 32 hold.
-fn short(x: u64) -> u32
-    requires { ⌜ x < 4294967296 ⌝ }
-    ensures { λ r. ⌜ r ≡ x ⌝ }
-{
-    x as u32
-}
-
 // 13 to 17 of a plan in two rows, or its end.
 fn check_rows(times: &[u16], arrows: &[[u16; 2]], m: u32, procs: &[u8], starts: &[u32]) -> PlanEnd
     requires { ⌜ Given (now times) (now arrows) m (now procs) (now starts) ⌝ }
@@ -106,7 +98,8 @@ fn check_rows(times: &[u16], arrows: &[[u16; 2]], m: u32, procs: &[u8], starts: 
     if number != 0 {
         return refused(number);
     }
-    PlanEnd::Ends(short(last_end(times, starts)))
+    let end = last_end(times, starts) as u32;
+    PlanEnd::Ends(end)
 }
 
 // 8 and 12 to 17 of a plan of an accepted graph, or its end.

@@ -1,5 +1,4 @@
 -- `check_rows`: the reply for a plan in two rows. Assumes nothing.
-use mathlib.Core.Path.{_∙_}
 use Prim.Native.Nat.{_-_}
 use native.Mathlib.Omega.{arith}
 use borrow.Author.Needs.{needs}
@@ -22,9 +21,9 @@ returns c =
 last-end-requires : tie.Need-last-end-requires
 last-end-requires c κs = search needs
 
-short-requires : tie.Need-short-requires
+cast-end : tie.Need-cast-end
 unfolding timeOf
-short-requires c κs =
+cast-end c =
     let c-pre = c .before .before .before .before .before .before .pre in
     let c-ask = c .before .before .ask in
     let c-shared-slice-known = c .before .before .before .before .before .shared-slice-known in
@@ -32,12 +31,12 @@ short-requires c κs =
 
 returns-2 : tie.Need-returns-2
 returns-2 c =
-    let c-pre = c .before .before .before .before .before .before .before .pre in
-    let c-ask = c .before .before .before .ask in
-    let c-if1 = c .before .before .if1 in
-    ends-as _ _ _ _ _ (c-pre) _ (c-ask .ensures) (c-if1 .left) _ (c .short .ensures ∙ c .before .last-end .ensures)
+    let c-pre = c .before .before .before .before .before .before .pre in
+    let c-ask = c .before .before .ask in
+    let c-if1 = c .before .if1 in
+    ends-as _ _ _ _ _ (c-pre) _ (c-ask .ensures) (c-if1 .left) _ (c .last-end .ensures)
 
 pub check-rows-spec : {M : Type 1} → statement M
 check-rows-spec =
     tie.close
-    (tie.spec ask-requires refused-requires returns last-end-requires short-requires returns-2)
+    (tie.spec ask-requires refused-requires returns last-end-requires cast-end returns-2)
