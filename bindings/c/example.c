@@ -1,5 +1,8 @@
 /* Reads an STG text from standard input, asks for a verdict on 3 processors against a deadline of 20 microseconds,
- * and prints the list plan in the order 1..n. */
+ * and prints the list plan in the order 1..n. At the repository's root:
+ *     rt staticlib api
+ *     cc -I bindings/c bindings/c/example.c target/staticlib/libapi.a -o target/example
+ *     target/example < crates/vectors/data/g.stg */
 #include <stdio.h>
 #include "zulagbemi.h"
 
