@@ -1,4 +1,4 @@
--- Rows of noughts, and what a row holds for a subtask after a store. Assumes nothing.
+-- What a row holds for a subtask after a store. Assumes nothing.
 use mathlib.Core.Path.{_≡_, refl, ap}
 use mathlib.Core.Logic.{_≢_}
 use mathlib.Core.List.{List, _∷_}
@@ -8,18 +8,6 @@ use lib.ListN.{length, getD, set, take, replicate}
 use lib.Seq.{getD-set-same, getD-set-other}
 use Rattle.terms.specs.Graphs.{timeOf}
 use Rattle.entries.specs.Entries.{itemOf, finishOf}
-
--- a row of noughts
-pub read-noughts : (n i : ℕ) → _≡_ {A = ℕ} (getD (replicate n 0) i 0) 0
-read-noughts zero i = refl
-read-noughts (suc n) zero = refl
-read-noughts (suc n) (suc i) = read-noughts n i
-
--- the front of a row of noughts
-pub take-noughts : (n m : ℕ) → n ≤ m → _≡_ {A = List ℕ} (take n (replicate m 0)) (replicate n 0)
-take-noughts zero m l = refl
-take-noughts (suc n) zero l = absurd (omega arith)
-take-noughts (suc n) (suc m) l = ap (λ (row : List ℕ). 0 ∷ row) (take-noughts n m (omega arith))
 
 -- ---- what a row holds for a subtask
 

@@ -10,7 +10,9 @@ use lib.ListN.{length}
 use Rattle.terms.specs.Graphs.{IsSubtask}
 use Rattle.terms.specs.Plans.{Placed, startOf, endOf}
 use Rattle.terms.specs.declared.Entry.{Entry}
-use Rattle.theory.proofs.Sums.{sum, sum-eq, bit, bit-yes, bit-no, bit-mono}
+use Rattle.terms.specs.Sums.{sum}
+use Rattle.theory.specs.Counting.{bit}
+use Rattle.theory.proofs.Sums.{sum-eq, bit-yes, bit-no, bit-mono}
 use Rattle.theory.proofs.Running.{decRuns, runs, running}
 use Rattle.entries.specs.Entries.{itemOf, finishOf}
 use Rattle.plancheck.specs.Scans.{FirstSubtask, runsIn, runningAmong, Idles, Earliest}

@@ -10,29 +10,6 @@ use Rattle.terms.specs.Graphs.{Among}
 use Rattle.graph.proofs.Firsts.{Clear, first-here, first-none}
 use Rattle.plancheck.specs.Scans.{FirstSubtask, Says, Clash, Clashes, FirstClash}
 
--- none of the subtasks 1..i is so
-abbrev pub NoneTo : (ℕ → Type 0) → ℕ → Type 0
-NoneTo IsSo i = Clear (λ k. IsSo (k + 1)) i
-
-module _ {n : ℕ} (IsSo : ℕ → Type 0) {r : ℕ} (f : FirstSubtask n IsSo r) where
-  pub first-is : r ≢ 0 → Among 1 n r × IsSo r
-  first-is h =
-      let e : r - 1 + 1 ≡ r = omega (arith, h) in
-      (record { low = omega (arith, h); high = f .within }, subst IsSo e (f .holds (omega (arith, h))))
-
-  pub first-no : r ≡ 0 → (j : ℕ) → Among 1 n j → ¬ IsSo j
-  first-no z j a h =
-      let e : j - 1 + 1 ≡ j = omega (arith, a .low) in
-      f .none z (j - 1) (omega (arith, a .low, a .high)) (rw e h)
-
--- ---- two subtasks that clash
-
-pub said : {P : Type 0} {b : Bool} → b ≡ true → Says P b → P
-said {P} e h = subst (Says P) e h
-
-pub unsaid : {P : Type 0} {b : Bool} → b ≡ false → Says P b → ¬ P
-unsaid {P} e h = subst (Says P) e h
-
 -- a subtask does not clash with itself or with one before it
 pub none-before : (times P S : List ℕ) (i : ℕ) → NoneTo (Clash times P S i) i
 none-before times P S i k l c = omega (arith, c .after)

@@ -7,7 +7,8 @@ use Prim.Native.Nat.{ℕ, suc, _+_, _≤_, _<_}
 use native.Mathlib.Decide.{decLe, decLt}
 use lib.ListN.{length, getD}
 use Rattle.terms.specs.Graphs.{Among, IsSubtask}
-use Rattle.theory.proofs.Sums.{sum, bit}
+use Rattle.terms.specs.Sums.{sum}
+use Rattle.theory.specs.Counting.{bit}
 use Rattle.entries.specs.Entries.{itemOf, finishOf}
 use Rattle.graph.specs.First.{First}
 use Rattle.plancheck.specs.declared.Pair.{Pair}

@@ -8,8 +8,9 @@ use native.Mathlib.Decide.{decLe, decLt, ℕ-discrete}
 use lib.Dec.{T}
 use lib.Ieee.{binary32, round, toBits}
 use lib.ListN.{length, replicate, take, drop}
-use Rattle.terms.specs.Rows.{Row, Answered, Accepted}
+use Rattle.terms.specs.Rows.{Accepted, refusalOf}
 use Rattle.terms.specs.Graphs.{IsSubtask, timeOf, fromOf, toOf, Precedes, LeadsTo}
+use Rattle.terms.specs.Sums.{sum}
 use Rattle.terms.specs.Paths.{totalWork, PathTo, alone, along, weight, IsLongest}
 use Rattle.terms.specs.Verdicts.{bound, IsVerdict, loadOf}
 use Rattle.terms.specs.Plans.{at, notPlaced, processorOf, startOf, endOf}
@@ -22,7 +23,7 @@ use Rattle.terms.specs.declared.Verdict.the-variants.{Fits, Late}
 use Rattle.terms.specs.declared.Outcome.the-variants.{Judged}
 use Rattle.terms.specs.declared.PlanEnd.the-variants.{Ends, Refused}
 use Rattle.terms.proofs.Decide.{isYes, by-yes, via, decWhen, decOrNot, seek, decSome, decAll, decEach, decAmong, decSomeSubtask, decSomeArrow, decRepeats, decOrder, decRuns, decFree, decServed, decReady, decIdle, decStartsEarly, decShare}
-use Rattle.terms.proofs.Tables.{Decided, answer, answered, then, decFinishes, no-cycle, longest-by, graphDecided, verdictDecided, listDecided, decIdleSometime, checkDecided, stepped, after, decEnds, decBegun}
+use Rattle.terms.proofs.Tables.{Accepts, Refuses, accepts, refuses, then, decFinishes, no-cycle, longest-by, graphDecided, onDecided, verdictDecided, listDecided, decIdleSometime, checkDecided, stepped, after, decEnds, decBegun}
 
 -- ---- graph G
 
@@ -75,17 +76,14 @@ pub record Examples : Type 0 where
   pub seven : Says (1 ∷ []) [] 16 1 1 1 16 (Fits 0)
   pub eight : HasFigures (3 ∷ 4 ∷ []) ((1 ∷ 2 ∷ []) ∷ []) 2 7 7 14
       × IsChecked (3 ∷ 4 ∷ []) ((1 ∷ 2 ∷ []) ∷ []) 2 (bothOnOne 0 3) (Ends 7)
-      × IsChecked (3 ∷ 4 ∷ []) ((1 ∷ 2 ∷ []) ∷ []) 2 (bothOnOne 0 2) (Refused (record { number = 15 }))
-  pub nine : IsChecked (3 ∷ []) [] 1 (at 1 1 ∷ []) (Refused (record { number = 17 }))
-  pub ten : IsChecked (5 ∷ 5 ∷ []) [] 2 (bothOnOne 0 5) (Refused (record { number = 17 }))
+      × IsChecked (3 ∷ 4 ∷ []) ((1 ∷ 2 ∷ []) ∷ []) 2 (bothOnOne 0 2) (Refused (refusalOf 15))
+  pub nine : IsChecked (3 ∷ []) [] 1 (at 1 1 ∷ []) (Refused (refusalOf 17))
+  pub ten : IsChecked (5 ∷ 5 ∷ []) [] 2 (bothOnOne 0 5) (Refused (refusalOf 17))
       × IsChecked (5 ∷ 5 ∷ []) [] 1 (bothOnOne 0 5) (Ends 10)
   -- example 5's load, 34 / 60, is the float nearest to 0.56666..
   pub load : toBits binary32 (loadOf 34 3 20) ≡ 0x3f111111
 
 -- ---- how each is found: by deciding, over the numbers of the example
-
-by-table : (rows : List Row) (decided : Decided rows) (k : ℕ) → answer decided ≡ k → Answered rows k
-by-table rows decided k e = rw e at (answered rows decided)
 
 module _ (times : List ℕ) (arrows : List (List ℕ)) (finish : List ℕ) (P : ℕ) where
   -- a table of finish times up to P
@@ -96,58 +94,57 @@ module _ (times : List ℕ) (arrows : List (List ℕ)) (finish : List ℕ) (P : 
   acyclic f = no (no-cycle times arrows finish P (by-yes (decFinishes times arrows finish P) f))
 
   has-figures : (M C S : ℕ) (f : Finished) (j : ℕ) (path : PathTo times arrows j) → weight path ≡ P
-      → answer (graphDecided times arrows (acyclic f)) ≡ 0 → totalWork times ≡ C → bound C P M ≡ S → HasFigures times arrows M C P S
+      → Accepts (graphDecided times arrows (acyclic f)) → totalWork times ≡ C → bound C P M ≡ S → HasFigures times arrows M C P S
   has-figures M C S f j path w a c s = record {
-    accepted = by-table (graphRows times arrows) (graphDecided times arrows (acyclic f)) 0 a;
+    accepted = accepts (graphDecided times arrows (acyclic f)) a;
     work = c;
     path = longest-by times arrows finish P (by-yes (decFinishes times arrows finish P) f) j path w;
     sum = s;
   }
 
-  says : (M D C S : ℕ) (verdict : Verdict) (f : Finished) → HasFigures times arrows M C P S → answer (verdictDecided times arrows M D (acyclic f)) ≡ 0
+  says : (M D C S : ℕ) (verdict : Verdict) (f : Finished) → HasFigures times arrows M C P S → Accepts (verdictDecided times arrows M D (acyclic f))
       → IsVerdict S M D verdict → Says times arrows M D C P S verdict
   unfolding IsOutcome
   says M D C S verdict f h a v = (
-    by-table (verdictRows times arrows M D) (verdictDecided times arrows M D (acyclic f)) 0 a,
+    accepts (verdictDecided times arrows M D (acyclic f)) a,
     record { work = sym (h .work); path = h .path; sum = sym (h .sum); load-is = refl },
     v,
   )
 
-  -- the rule has made the list plan after k steps
-  list-plan-ends : (order : List ℕ) (M k E : ℕ) (f : Finished) → answer (listDecided times arrows M order (length (replicate (length times) notPlaced)) (acyclic f)) ≡ 0
-      → take (length times) (after times arrows order M k .plan) ≡ after times arrows order M k .plan
-      → drop (length times) (after times arrows order M k .plan) ≡ drop (length times) (replicate (length times) notPlaced)
-      → T (isYes (decBegun times (after times arrows order M k .plan) E)) → T (isYes (decEnds times (after times arrows order M k .plan) E))
-      → ListPlanEnds times arrows order M E
-  unfolding IsListed
-  list-plan-ends order M k E f a whole past b e =
-      let m = after times arrows order M k in (
-        m .plan,
-        (
-          by-table _ (listDecided times arrows M order (length (replicate (length times) notPlaced)) (acyclic f)) 0 a,
-          record {
-            plan = rw whole (record { clock = m .clock; made = m .made; all = λ j s. by-yes (decBegun times (m .plan) E) b j s .0 });
-            past = past;
-            ends = rw whole (by-yes (decEnds times (m .plan) E) e);
-          },
-        ),
-      )
-
   checked-ends : (M K E : ℕ) (plan : List Entry) (f : Finished) (b : T (isYes (decBegun times plan K)))
-      → answer (checkDecided times arrows M plan K (acyclic f) (by-yes (decBegun times plan K) b)) ≡ 0 → T (isYes (decEnds times plan E)) → IsChecked times arrows M plan (Ends E)
+      → Accepts (checkDecided times arrows M plan K (acyclic f) (by-yes (decBegun times plan K) b)) → T (isYes (decEnds times plan E)) → IsChecked times arrows M plan (Ends E)
   unfolding IsChecked
   checked-ends M K E plan f b a e = (
-    by-table (checkRows times arrows M plan) (checkDecided times arrows M plan K (acyclic f) (by-yes (decBegun times plan K) b)) 0 a,
+    accepts (checkDecided times arrows M plan K (acyclic f) (by-yes (decBegun times plan K) b)) a,
     by-yes (decEnds times plan E) e,
   )
 
   checked-refused : (M K k : ℕ) (plan : List Entry) (f : Finished) (b : T (isYes (decBegun times plan K)))
-      → answer (checkDecided times arrows M plan K (acyclic f) (by-yes (decBegun times plan K) b)) ≡ k → 1 ≤ k → IsChecked times arrows M plan (Refused (record { number = k }))
+      → Refuses k (checkDecided times arrows M plan K (acyclic f) (by-yes (decBegun times plan K) b)) → IsChecked times arrows M plan (Refused (refusalOf k))
   unfolding IsChecked
-  checked-refused M K k plan f b a l = record {
-    answered = by-table (checkRows times arrows M plan) (checkDecided times arrows M plan K (acyclic f) (by-yes (decBegun times plan K) b)) k a;
-    refuses = l;
-  }
+  checked-refused M K k plan f b r = refuses k (checkDecided times arrows M plan K (acyclic f) (by-yes (decBegun times plan K) b)) r
+
+  -- the rule has made the list plan after k steps
+  list-plan-ends : (order : List ℕ) (M k E : ℕ) (f : Finished) → Accepts (listDecided times arrows M order (length (replicate (length times) notPlaced)) (acyclic f))
+      → take (length times) (after times arrows order M k .plan) ≡ after times arrows order M k .plan
+      → drop (length times) (after times arrows order M k .plan) ≡ drop (length times) (replicate (length times) notPlaced)
+      → (b : T (isYes (decBegun times (after times arrows order M k .plan) E)))
+      → Accepts (checkDecided times arrows M (after times arrows order M k .plan) E (acyclic f) (by-yes (decBegun times (after times arrows order M k .plan) E) b))
+      → T (isYes (decEnds times (after times arrows order M k .plan) E))
+      → ListPlanEnds times arrows order M E
+  unfolding IsListed
+  list-plan-ends order M k E f a whole past b c e =
+      let m = after times arrows order M k in (
+        m .plan,
+        (
+          accepts (listDecided times arrows M order (length (replicate (length times) notPlaced)) (acyclic f)) a,
+          record {
+            plan = rw whole (record { clock = m .clock; made = m .made; all = λ j s. by-yes (decBegun times (m .plan) E) b j s .0 });
+            past = past;
+            checked = rw whole (checked-ends M E E (m .plan) f b c e);
+          },
+        ),
+      )
 
 -- along the arrow at a place
 abbrev arrowAt : (arrows : List (List ℕ)) (a : ℕ) → T (isYes (decLt a (length arrows))) → Precedes arrows (fromOf arrows a) (toOf arrows a)
@@ -163,46 +160,46 @@ abbrev shorterFinishG : List ℕ
 shorterFinishG = 2 ∷ 1 ∷ 1 ∷ 1 ∷ 4 ∷ 4 ∷ 4 ∷ 4 ∷ 10 ∷ []
 
 figuresG : (M S : ℕ) → bound 34 12 M ≡ S → HasFigures timesG arrowsG M 34 12 S
-unfolding answer graphDecided decFinishes via seek decSome decAll decEach decAmong decSomeSubtask decSomeArrow decRepeats Dec·and Dec·not decLe decLt ℕ-discrete timeOf fromOf toOf totalWork weight
-figuresG M S e = has-figures timesG arrowsG finishG 12 M 34 S tt 9 (along (alone 1 (subtaskAt timesG 1 tt)) 9 (arrowAt arrowsG 0 tt)) refl refl refl e
+unfolding Accepts graphDecided decFinishes via seek decSome decAll decEach decAmong decSomeSubtask decSomeArrow decRepeats Dec·and Dec·not decLe decLt ℕ-discrete timeOf fromOf toOf totalWork sum weight
+figuresG M S e = has-figures timesG arrowsG finishG 12 M 34 S tt 9 (along (alone 1 (subtaskAt timesG 1 tt)) 9 (arrowAt arrowsG 0 tt)) refl tt refl e
 
 load-of-five : toBits binary32 (loadOf 34 3 20) ≡ 0x3f111111
 unfolding loadOf round toBits
 load-of-five = refl
 
 pub examples : Examples
-unfolding answer then graphDecided verdictDecided listDecided checkDecided decIdleSometime after stepped decEnds decBegun decFinishes via decWhen decOrNot seek decSome decAll decEach decAmong decSomeSubtask decSomeArrow decRepeats decOrder decRuns decFree decServed decReady decIdle decStartsEarly decShare Dec·and Dec·not decLe decLt ℕ-discrete timeOf fromOf toOf processorOf startOf endOf put totalWork weight bound IsVerdict
+unfolding Accepts Refuses then graphDecided onDecided verdictDecided listDecided checkDecided decIdleSometime after stepped decEnds decBegun decFinishes via decWhen decOrNot seek decSome decAll decEach decAmong decSomeSubtask decSomeArrow decRepeats decOrder decRuns decFree decServed decReady decIdle decStartsEarly decShare Dec·and Dec·not decLe decLt ℕ-discrete timeOf fromOf toOf processorOf startOf endOf put totalWork sum weight bound IsVerdict
 examples =
     let two-fives : HasFigures (5 ∷ 5 ∷ []) [] 2 10 5 15 =
-    has-figures (5 ∷ 5 ∷ []) [] (5 ∷ 5 ∷ []) 5 2 10 15 tt 1 (alone 1 (subtaskAt (5 ∷ 5 ∷ []) 1 tt)) refl refl refl refl in
+    has-figures (5 ∷ 5 ∷ []) [] (5 ∷ 5 ∷ []) 5 2 10 15 tt 1 (alone 1 (subtaskAt (5 ∷ 5 ∷ []) 1 tt)) refl tt refl refl in
     record {
-      one = (figuresG 3 58 refl, list-plan-ends timesG arrowsG finishG 12 orderG 3 21 12 tt refl refl refl tt tt);
+      one = (figuresG 3 58 refl, list-plan-ends timesG arrowsG finishG 12 orderG 3 21 12 tt tt refl refl tt tt tt);
       two = (
-        has-figures shorterG arrowsG shorterFinishG 10 3 25 45 tt 9 (along (alone 1 (subtaskAt shorterG 1 tt)) 9 (arrowAt arrowsG 0 tt)) refl refl refl refl,
-        list-plan-ends shorterG arrowsG shorterFinishG 10 orderG 3 22 13 tt refl refl refl tt tt,
+        has-figures shorterG arrowsG shorterFinishG 10 3 25 45 tt 9 (along (alone 1 (subtaskAt shorterG 1 tt)) 9 (arrowAt arrowsG 0 tt)) refl tt refl refl,
+        list-plan-ends shorterG arrowsG shorterFinishG 10 orderG 3 22 13 tt tt refl refl tt tt tt,
       );
-      three = (figuresG 4 70 refl, list-plan-ends timesG arrowsG finishG 12 orderG 4 24 15 tt refl refl refl tt tt);
-      four = list-plan-ends timesG fewerG finishG 12 orderG 3 25 16 tt refl refl refl tt tt;
+      three = (figuresG 4 70 refl, list-plan-ends timesG arrowsG finishG 12 orderG 4 24 15 tt tt refl refl tt tt tt);
+      four = list-plan-ends timesG fewerG finishG 12 orderG 3 25 16 tt tt refl refl tt tt tt;
       five = (
-        says timesG arrowsG finishG 12 3 20 34 58 (Fits 2) tt (figuresG 3 58 refl) refl (omega arith, refl),
-        says timesG arrowsG finishG 12 3 19 34 58 (Late 1) tt (figuresG 3 58 refl) refl (omega arith, refl),
+        says timesG arrowsG finishG 12 3 20 34 58 (Fits 2) tt (figuresG 3 58 refl) tt (omega arith, refl),
+        says timesG arrowsG finishG 12 3 19 34 58 (Late 1) tt (figuresG 3 58 refl) tt (omega arith, refl),
       );
       six = (
-        says (5 ∷ 5 ∷ []) [] (5 ∷ 5 ∷ []) 5 2 8 10 15 (Fits 1) tt two-fives refl (omega arith, refl),
-        says (5 ∷ 5 ∷ []) [] (5 ∷ 5 ∷ []) 5 2 7 10 15 (Late 1) tt two-fives refl (omega arith, refl),
+        says (5 ∷ 5 ∷ []) [] (5 ∷ 5 ∷ []) 5 2 8 10 15 (Fits 1) tt two-fives tt (omega arith, refl),
+        says (5 ∷ 5 ∷ []) [] (5 ∷ 5 ∷ []) 5 2 7 10 15 (Late 1) tt two-fives tt (omega arith, refl),
       );
       seven = says (1 ∷ []) [] (1 ∷ []) 1 16 1 1 16 (Fits 0) tt
-          (has-figures (1 ∷ []) [] (1 ∷ []) 1 16 1 16 tt 1 (alone 1 (subtaskAt (1 ∷ []) 1 tt)) refl refl refl refl) refl (omega arith, refl);
+          (has-figures (1 ∷ []) [] (1 ∷ []) 1 16 1 16 tt 1 (alone 1 (subtaskAt (1 ∷ []) 1 tt)) refl tt refl refl) tt (omega arith, refl);
       eight = (
         has-figures (3 ∷ 4 ∷ []) ((1 ∷ 2 ∷ []) ∷ []) (3 ∷ 7 ∷ []) 7 2 7 14 tt 2
-            (along (alone 1 (subtaskAt (3 ∷ 4 ∷ []) 1 tt)) 2 (arrowAt ((1 ∷ 2 ∷ []) ∷ []) 0 tt)) refl refl refl refl,
-        checked-ends (3 ∷ 4 ∷ []) ((1 ∷ 2 ∷ []) ∷ []) (3 ∷ 7 ∷ []) 7 2 3 7 (bothOnOne 0 3) tt tt refl tt,
-        checked-refused (3 ∷ 4 ∷ []) ((1 ∷ 2 ∷ []) ∷ []) (3 ∷ 7 ∷ []) 7 2 2 15 (bothOnOne 0 2) tt tt refl (omega arith),
+            (along (alone 1 (subtaskAt (3 ∷ 4 ∷ []) 1 tt)) 2 (arrowAt ((1 ∷ 2 ∷ []) ∷ []) 0 tt)) refl tt refl refl,
+        checked-ends (3 ∷ 4 ∷ []) ((1 ∷ 2 ∷ []) ∷ []) (3 ∷ 7 ∷ []) 7 2 3 7 (bothOnOne 0 3) tt tt tt tt,
+        checked-refused (3 ∷ 4 ∷ []) ((1 ∷ 2 ∷ []) ∷ []) (3 ∷ 7 ∷ []) 7 2 2 15 (bothOnOne 0 2) tt tt refl,
       );
-      nine = checked-refused (3 ∷ []) [] (3 ∷ []) 3 1 1 17 (at 1 1 ∷ []) tt tt refl (omega arith);
+      nine = checked-refused (3 ∷ []) [] (3 ∷ []) 3 1 1 17 (at 1 1 ∷ []) tt tt refl;
       ten = (
-        checked-refused (5 ∷ 5 ∷ []) [] (5 ∷ 5 ∷ []) 5 2 5 17 (bothOnOne 0 5) tt tt refl (omega arith),
-        checked-ends (5 ∷ 5 ∷ []) [] (5 ∷ 5 ∷ []) 5 1 5 10 (bothOnOne 0 5) tt tt refl tt,
+        checked-refused (5 ∷ 5 ∷ []) [] (5 ∷ 5 ∷ []) 5 2 5 17 (bothOnOne 0 5) tt tt refl,
+        checked-ends (5 ∷ 5 ∷ []) [] (5 ∷ 5 ∷ []) 5 1 5 10 (bothOnOne 0 5) tt tt tt tt,
       );
       load = load-of-five;
     }

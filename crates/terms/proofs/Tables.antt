@@ -6,12 +6,12 @@ use Prim.Native.Nat.{ℕ, zero, suc, _+_, _-_, _≤_, _<_}
 use native.Mathlib.Omega.{arith}
 use native.Mathlib.Decide.{decLe, decLt, ℕ-discrete}
 use lib.ListN.{length, getD, replicate}
-use Rattle.terms.specs.Rows.{Row, row, Answered}
+use Rattle.terms.specs.Rows.{Row, Accepted, RefusedBy, refusalOf}
 use Rattle.terms.specs.Graphs.{Among, IsSubtask, timeOf, fromOf, toOf, Precedes, LeadsTo, step, more}
 use Rattle.terms.specs.Paths.{PathTo, alone, along, weight, IsLongest}
 use Rattle.terms.specs.Plans.{notPlaced, Placed, processorOf, startOf, endOf, EndsAt, ReadyAt, FreeAt, IdleAt}
 use Rattle.terms.specs.ListRule.{Goes, put, ByRule, begin, goes, tick}
-use Rattle.terms.specs.Refusals.{timeAndArrowRows, graphRows, verdictRows, listRows, planRows, checkRows}
+use Rattle.terms.specs.Refusals.{countRows, timeRows, subtaskRows, sizeRows, arrowRows, graphRows, processorRows, onRows, deadlineRows, orderRows, planRows, verdictRows, listRows, checkRows}
 use Rattle.terms.specs.declared.Entry.{Entry}
 use Rattle.terms.proofs.Decide.{via, Least, seek, decSome, decAll, decEach, decAmong, decSomeSubtask, decSomeArrow, decRepeats, decOrder, decReady, decFree, decIdle, decStartsEarly, decShare}
 
@@ -21,16 +21,29 @@ pub data Decided : List Row → Type 1 where
   none : Decided []
   and : {row : Row} {rows : List Row} → Dec (row .holds) → Decided rows → Decided (row ∷ rows)
 
-unfoldable pub answer : {rows : List Row} → Decided rows → ℕ
-answer none = 0
-answer (and {row} (yes h) later) = row .number
-answer (and (no h) later) = answer later
+-- no row holds
+unfoldable pub Accepts : {rows : List Row} → Decided rows → Type 0
+Accepts none = Unit {0}
+Accepts (and (yes h) later) = ⊥
+Accepts (and (no h) later) = Accepts later
 
-pub answered : (rows : List Row) (decided : Decided rows) → Answered rows (answer decided)
-unfolding Answered answer
-answered [] none = refl
-answered (row ∷ rows) (and (yes h) later) = inl (h, refl)
-answered (row ∷ rows) (and (no h) later) = inr (h, answered rows later)
+-- the first row that holds has number k
+unfoldable pub Refuses : {rows : List Row} → ℕ → Decided rows → Type 0
+Refuses k none = ⊥
+Refuses k (and {row} (yes h) later) = k ≡ row .number
+Refuses k (and (no h) later) = Refuses k later
+
+pub accepts : {rows : List Row} (decided : Decided rows) → Accepts decided → Accepted rows
+unfolding Accepted Accepts
+accepts none a = tt
+accepts (and (yes h) later) a = absurd a
+accepts (and (no h) later) a = (h, accepts later a)
+
+pub refuses : {rows : List Row} (k : ℕ) (decided : Decided rows) → Refuses k decided → RefusedBy rows (refusalOf k)
+unfolding RefusedBy Refuses
+refuses k none r = absurd r
+refuses k (and (yes h) later) r = inl (record { holds = h; number-is = r })
+refuses k (and (no h) later) r = inr (h, refuses k later r)
 
 unfoldable pub then : {rows later : List Row} → Decided rows → Decided later → Decided (rows ++ later)
 then none later = later
@@ -86,7 +99,7 @@ module _ (times : List ℕ) (arrows : List (List ℕ)) (finish : List ℕ) (P : 
 -- ---- the tables of document 01
 
 unfoldable pub graphDecided : (times : List ℕ) (arrows : List (List ℕ)) → Dec ((j : ℕ) × LeadsTo arrows j j) → Decided (graphRows times arrows)
-unfolding graphRows timeAndArrowRows decSomeSubtask decSomeArrow decRepeats decAmong Dec·and Dec·not decLt ℕ-discrete
+unfolding graphRows subtaskRows countRows timeRows sizeRows arrowRows decSomeSubtask decSomeArrow decRepeats decAmong Dec·and Dec·not decLt ℕ-discrete
 graphDecided times arrows cycle =
     and (Dec·not (decAmong _ _ _))
     (and (decSomeSubtask _ _ (λ j. ℕ-discrete _ _))
@@ -96,14 +109,17 @@ graphDecided times arrows cycle =
     (and (decSomeArrow _ _ (decRepeats _))
     (and cycle none))))))
 
+unfoldable pub onDecided : (times : List ℕ) (arrows : List (List ℕ)) (M : ℕ) → Dec ((j : ℕ) × LeadsTo arrows j j) → Decided (onRows times arrows M)
+unfolding onRows processorRows graphDecided then decAmong Dec·not
+onDecided times arrows M cycle = then (graphDecided times arrows cycle) (and (Dec·not (decAmong _ _ _)) none)
+
 unfoldable pub verdictDecided : (times : List ℕ) (arrows : List (List ℕ)) (M D : ℕ) → Dec ((j : ℕ) × LeadsTo arrows j j) → Decided (verdictRows times arrows M D)
-unfolding verdictRows graphDecided then decAmong Dec·not
-verdictDecided times arrows M D cycle = then (graphDecided times arrows cycle) (and (Dec·not (decAmong _ _ _)) (and (Dec·not (decAmong _ _ _)) none))
+unfolding verdictRows deadlineRows onDecided then decAmong Dec·not
+verdictDecided times arrows M D cycle = then (onDecided times arrows M cycle) (and (Dec·not (decAmong _ _ _)) none)
 
 unfoldable pub listDecided : (times : List ℕ) (arrows : List (List ℕ)) (M : ℕ) (order : List ℕ) (room : ℕ) → Dec ((j : ℕ) × LeadsTo arrows j j) → Decided (listRows times arrows M order room)
-unfolding listRows graphDecided then decAmong decOrder decLt Dec·not
-listDecided times arrows M order room cycle =
-    then (graphDecided times arrows cycle) (and (Dec·not (decAmong _ _ _)) (and (Dec·not (decOrder _ _)) (and (decLt _ _) none)))
+unfolding listRows orderRows onDecided then decOrder decLt Dec·not
+listDecided times arrows M order room cycle = then (onDecided times arrows M cycle) (and (Dec·not (decOrder _ _)) (and (decLt _ _) none))
 
 -- 17 where every subtask is placed and none starts after K: no later instant need be asked
 unfoldable pub decIdleSometime : (times : List ℕ) (arrows : List (List ℕ)) (M : ℕ) (plan : List Entry) (K : ℕ)
@@ -120,16 +136,15 @@ decIdleSometime times arrows M plan K begun = via
 
 unfoldable pub checkDecided : (times : List ℕ) (arrows : List (List ℕ)) (M : ℕ) (plan : List Entry) (K : ℕ)
     → Dec ((j : ℕ) × LeadsTo arrows j j) → ((j : ℕ) → IsSubtask times j → Placed plan j × (startOf plan j ≤ K)) → Decided (checkRows times arrows M plan)
-unfolding checkRows planRows graphDecided then decAmong decSomeSubtask decStartsEarly decShare decIdleSometime Dec·not decLt ℕ-discrete
+unfolding checkRows planRows onDecided then decAmong decSomeSubtask decStartsEarly decShare decIdleSometime Dec·not decLt ℕ-discrete
 checkDecided times arrows M plan K cycle begun =
-    then (graphDecided times arrows cycle)
-    (and (Dec·not (decAmong _ _ _))
+    then (onDecided times arrows M cycle)
     (and (Dec·not (ℕ-discrete _ _))
     (and (decSomeSubtask _ _ (λ j. Dec·not (decAmong _ _ _)))
     (and (decSomeSubtask _ _ (λ j. decLt _ _))
     (and (decSomeSubtask _ _ (decStartsEarly _ _ _))
     (and (decSomeSubtask _ _ (λ i. decSomeSubtask _ _ (decShare _ _ i)))
-    (and (decIdleSometime times arrows M plan K begun) none)))))))
+    (and (decIdleSometime times arrows M plan K begun) none))))))
 
 -- ---- the list rule, step by step
 

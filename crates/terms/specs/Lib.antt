@@ -1,5 +1,6 @@
 pub mod Rows
 pub mod Graphs
+pub mod Sums
 pub mod Paths
 pub mod Verdicts
 pub mod Plans

@@ -1,13 +1,14 @@
 -- Document 01, "Terms": total work C and longest path P.
 use mathlib.Core.Path.{_≡_}
-use mathlib.Core.List.{List, [], _∷_}
-use Prim.Native.Nat.{ℕ, _+_, _≤_}
+use mathlib.Core.List.{List}
+use Prim.Native.Nat.{ℕ, suc, _+_, _≤_}
+use lib.ListN.{length}
+use Rattle.terms.specs.Sums.{sum}
 use Rattle.terms.specs.Graphs.{IsSubtask, timeOf, Precedes}
 
 -- C: the sum of all times
 unfoldable pub totalWork : List ℕ → ℕ
-totalWork [] = 0
-totalWork (time ∷ times) = time + totalWork times
+totalWork times = sum (length times) (λ i. timeOf times (suc i))
 
 -- a path of arrows that ends in j: one subtask alone is a path, and so is a path to i with an arrow from i to j
 pub data PathTo (times : List ℕ) (arrows : List (List ℕ)) : ℕ → Type 0 where

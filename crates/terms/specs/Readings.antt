@@ -5,7 +5,7 @@ use mathlib.Core.Bool.{Bool, true, false, cond, _&&_, _||_}
 use Prim.Native.Nat.{ℕ, zero, suc, _+_, _-_}
 use lib.Dec.{eqb, leb, ltb}
 use lib.ListN.{length, getD, drop, replicate}
-use Rattle.terms.specs.Rows.{Accepted, RefusedBy}
+use Rattle.terms.specs.Rows.{Accepted, RefusedBy, refusalOf}
 use Rattle.terms.specs.Refusals.{timeAndArrowRows}
 use Rattle.terms.specs.Texts.{allPass, begins, isBlank, lines, proper, numbers}
 use Rattle.terms.specs.declared.Counts.{Counts}
@@ -129,7 +129,7 @@ pub record RowsHold (timesRoom arrowsRoom : ℕ) (times : List ℕ) (arrows : Li
 -- with a refusal both rows are all zeros; otherwise they hold the graph, and the reply has its counts. 2 to 7 are asked of the graph that was read
 unfoldable pub IsReplyTo : Reading → ℕ → ℕ → List ℕ → List (List ℕ) → Counts → Type 0
 IsReplyTo (refuse k) timesRoom arrowsRoom timesRow arrowsRow (counts.Refused refusal) =
-    (refusal .number ≡ k) × RowsHold timesRoom arrowsRoom [] [] timesRow arrowsRow
+    (refusal ≡ refusalOf k) × RowsHold timesRoom arrowsRoom [] [] timesRow arrowsRow
 IsReplyTo (refuse k) timesRoom arrowsRoom timesRow arrowsRow (counts.Read size) = ⊥
 IsReplyTo (graph times arrows) timesRoom arrowsRoom timesRow arrowsRow (counts.Refused refusal) =
     RefusedBy (timeAndArrowRows times arrows) refusal × RowsHold timesRoom arrowsRoom [] [] timesRow arrowsRow

@@ -47,12 +47,28 @@ pub record Share (times : List ℕ) (plan : List Entry) (i j : ℕ) : Type 0 whe
   pub runs : RunsAt times plan i instant
   pub runsToo : RunsAt times plan j instant
 
--- 2 to 7, which the reader asks too
-unfoldable pub timeAndArrowRows : List ℕ → List (List ℕ) → List Row
-timeAndArrowRows times arrows =
-    row 2 (SomeSubtask times (λ j. timeOf times j ≡ 0))
-    ∷ row 3 (2048 < length arrows)
-    ∷ row 4 (SomeArrow arrows (NamesOutside times arrows))
+-- ---- the table, in the pieces that calls ask
+
+-- how many subtasks: 1
+unfoldable pub countRows : List ℕ → List Row
+countRows times = row 1 (¬ Among 1 256 (length times)) ∷ []
+
+-- their times: 2
+unfoldable pub timeRows : List ℕ → List Row
+timeRows times = row 2 (SomeSubtask times (λ j. timeOf times j ≡ 0)) ∷ []
+
+-- the subtasks: 1 and 2
+unfoldable pub subtaskRows : List ℕ → List Row
+subtaskRows times = countRows times ++ timeRows times
+
+-- how many arrows: 3
+unfoldable pub sizeRows : List (List ℕ) → List Row
+sizeRows arrows = row 3 (2048 < length arrows) ∷ []
+
+-- the arrows: 4 to 7
+unfoldable pub arrowRows : List ℕ → List (List ℕ) → List Row
+arrowRows times arrows =
+    row 4 (SomeArrow arrows (NamesOutside times arrows))
     ∷ row 5 (SomeArrow arrows (λ a. fromOf arrows a ≡ toOf arrows a))
     ∷ row 6 (SomeArrow arrows (Repeats arrows))
     ∷ row 7 ((j : ℕ) × LeadsTo arrows j j)
@@ -60,22 +76,29 @@ timeAndArrowRows times arrows =
 
 -- 1 to 7, which all but the reader ask first
 unfoldable pub graphRows : List ℕ → List (List ℕ) → List Row
-graphRows times arrows = row 1 (¬ Among 1 256 (length times)) ∷ timeAndArrowRows times arrows
+graphRows times arrows = subtaskRows times ++ (sizeRows arrows ++ arrowRows times arrows)
 
--- 8, where M is asked
-abbrev pub processorsRow : ℕ → Row
-processorsRow M = row 8 (¬ Among 1 16 M)
+-- 2 to 7, which the reader asks of the graph that was read
+unfoldable pub timeAndArrowRows : List ℕ → List (List ℕ) → List Row
+timeAndArrowRows times arrows = timeRows times ++ (sizeRows arrows ++ arrowRows times arrows)
 
--- the verdict: 1 to 9
-unfoldable pub verdictRows : List ℕ → List (List ℕ) → ℕ → ℕ → List Row
-verdictRows times arrows M D = graphRows times arrows ++ processorsRow M ∷ row 9 (¬ Among 1 1000000 D) ∷ []
+-- how many processors: 8
+unfoldable pub processorRows : ℕ → List Row
+processorRows M = row 8 (¬ Among 1 16 M) ∷ []
 
--- the list plan, over a lent row of so many entries: 1 to 8, 10, 11
-unfoldable pub listRows : List ℕ → List (List ℕ) → ℕ → List ℕ → ℕ → List Row
-listRows times arrows M order room =
-    graphRows times arrows ++ processorsRow M ∷ row 10 (¬ IsOrder times order) ∷ row 11 (room < length times) ∷ []
+-- a graph on M processors: 1 to 8
+unfoldable pub onRows : List ℕ → List (List ℕ) → ℕ → List Row
+onRows times arrows M = graphRows times arrows ++ processorRows M
 
--- what is asked of a plan itself: 12 to 17
+-- the deadline: 9
+unfoldable pub deadlineRows : ℕ → List Row
+deadlineRows D = row 9 (¬ Among 1 1000000 D) ∷ []
+
+-- the order, and the lent row of so many entries: 10 and 11
+unfoldable pub orderRows : List ℕ → List ℕ → ℕ → List Row
+orderRows times order room = row 10 (¬ IsOrder times order) ∷ row 11 (room < length times) ∷ []
+
+-- the plan itself: 12 to 17
 unfoldable pub planRows : List ℕ → List (List ℕ) → ℕ → List Entry → List Row
 planRows times arrows M plan =
     row 12 (length plan ≢ length times)
@@ -86,6 +109,16 @@ planRows times arrows M plan =
     ∷ row 17 ((t : ℕ) × IdleAt times arrows M plan t)
     ∷ []
 
+-- ---- what each call asks, in its order
+
+-- the verdict: 1 to 9
+unfoldable pub verdictRows : List ℕ → List (List ℕ) → ℕ → ℕ → List Row
+verdictRows times arrows M D = onRows times arrows M ++ deadlineRows D
+
+-- the list plan, over a lent row of so many entries: 1 to 8, 10, 11
+unfoldable pub listRows : List ℕ → List (List ℕ) → ℕ → List ℕ → ℕ → List Row
+listRows times arrows M order room = onRows times arrows M ++ orderRows times order room
+
 -- the plan check: 1 to 8 and 12 to 17
 unfoldable pub checkRows : List ℕ → List (List ℕ) → ℕ → List Entry → List Row
-checkRows times arrows M plan = graphRows times arrows ++ processorsRow M ∷ planRows times arrows M plan
+checkRows times arrows M plan = onRows times arrows M ++ planRows times arrows M plan

@@ -28,11 +28,10 @@ unfoldable pub IsCheck : List Row → Check → Type 0
 IsCheck rows check.Sound = Accepted rows
 IsCheck rows (check.Refused refusal) = RefusedBy rows refusal
 
--- C and P together
-unfoldable pub IsMeasure : List ℕ → List (List ℕ) → Measure → Type 0
-IsMeasure times arrows (measure.Is weights) =
-    Accepted (graphRows times arrows) × (weights .work ≡ totalWork times) × IsLongest times arrows (weights .path)
-IsMeasure times arrows (measure.Refused refusal) = RefusedBy (graphRows times arrows) refusal
+-- C and P together, of a graph that these rows accept
+unfoldable pub IsMeasure : List Row → List ℕ → List (List ℕ) → Measure → Type 0
+IsMeasure rows times arrows (measure.Is weights) = Accepted rows × (weights .c ≡ totalWork times) × IsLongest times arrows (weights .p)
+IsMeasure rows times arrows (measure.Refused refusal) = RefusedBy rows refusal
 
 -- C asked for alone
 unfoldable pub IsTotalWork : List ℕ → List (List ℕ) → Amount → Type 0
@@ -53,11 +52,16 @@ IsOutcome times arrows M D figures (outcome.Refused refusal) = RefusedBy (verdic
 abbrev pub IsAnswer : List ℕ → List (List ℕ) → ℕ → ℕ → Answer → Type 0
 IsAnswer times arrows M D answer = IsOutcome times arrows M D (answer .figures) (answer .outcome)
 
--- the list plan stands in entries 1..n, the entries past n keep their old contents, and the reply is the plan's end
+-- the plan check
+unfoldable pub IsChecked : List ℕ → List (List ℕ) → ℕ → List Entry → PlanEnd → Type 0
+IsChecked times arrows M plan (planEnd.Ends E) = Accepted (checkRows times arrows M plan) × EndsAt times plan E
+IsChecked times arrows M plan (planEnd.Refused refusal) = RefusedBy (checkRows times arrows M plan) refusal
+
+-- the list plan stands in entries 1..n, the entries past n keep their old contents, and the plan check of the first n replies the same end
 pub record HoldsListPlan (times : List ℕ) (arrows : List (List ℕ)) (M : ℕ) (order : List ℕ) (before after : List Entry) (E : ℕ) : Type 0 where
   pub plan : IsListPlan times arrows order M (take (length times) after)
   pub past : drop (length times) after ≡ drop (length times) before
-  pub ends : EndsAt times (take (length times) after) E
+  pub checked : IsChecked times arrows M (take (length times) after) (planEnd.Ends E)
 
 -- the list plan, over the lent row as it was before and is after; with a refusal it stays as it was
 unfoldable pub IsListed : List ℕ → List (List ℕ) → ℕ → List ℕ → List Entry → List Entry → PlanEnd → Type 0
@@ -65,8 +69,3 @@ IsListed times arrows M order before after (planEnd.Ends E) =
     Accepted (listRows times arrows M order (length before)) × HoldsListPlan times arrows M order before after E
 IsListed times arrows M order before after (planEnd.Refused refusal) =
     RefusedBy (listRows times arrows M order (length before)) refusal × (after ≡ before)
-
--- the plan check
-unfoldable pub IsChecked : List ℕ → List (List ℕ) → ℕ → List Entry → PlanEnd → Type 0
-IsChecked times arrows M plan (planEnd.Ends E) = Accepted (checkRows times arrows M plan) × EndsAt times plan E
-IsChecked times arrows M plan (planEnd.Refused refusal) = RefusedBy (checkRows times arrows M plan) refusal

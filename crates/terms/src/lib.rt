@@ -1,4 +1,6 @@
 // The words of the planner: its kinds of number, its records and replies, its limits.
+ghost use mathlib.Core.Path.{_≡_};
+ghost use Rattle.terms.specs.Rows.{refusalOf};
 
 // At most so many subtasks, arrows and processors.
 pub const MOST_SUBTASKS: usize = 256;
@@ -16,8 +18,8 @@ pub const LATEST_START: u32 = 16776960;
 // The longest text, in bytes.
 pub const LONGEST_TEXT: usize = 60000;
 
-// The number of a subtask, from 1 on.
-pub struct Subtask(pub u16);
+// The number of a subtask, from 1 on. A machine word, so that a number out of a text or a row of any width is one without loss.
+pub struct Subtask(pub usize);
 
 // The number of a processor, from 1 on; 0 in a plan in the making stands for "not placed".
 #[repr(C)]
@@ -41,6 +43,13 @@ pub struct Refusal {
     pub number: u8,
 }
 
+// The one place where a refusal is made; whoever meets one passes it on.
+pub fn refuse(number: u8) -> Refusal
+    ensures { λ r. ⌜ r ≡ refusalOf number ⌝ }
+{
+    Refusal { number }
+}
+
 // Whether an input is accepted.
 pub enum Check {
     Sound,
@@ -49,8 +58,8 @@ pub enum Check {
 
 // C and P of a graph, together.
 pub struct Weights {
-    pub work: u32,
-    pub path: u32,
+    pub c: u32,
+    pub p: u32,
 }
 
 pub enum Measure {

@@ -13,7 +13,8 @@ use Rattle.terms.specs.Verdicts.{bound}
 use Rattle.terms.specs.Alterations.{Altered}
 use Rattle.theory.specs.Sound.{SoundGraph}
 use Rattle.theory.proofs.Accepted.{from-subtask, to-subtask}
-use Rattle.theory.proofs.Sums.{sum, sum-le}
+use Rattle.terms.specs.Sums.{sum}
+use Rattle.theory.proofs.Sums.{sum-le}
 use Rattle.theory.proofs.Pigeonhole.{repeats}
 use Rattle.theory.proofs.Work.{total-sum}
 use Rattle.theory.proofs.Paths.{longest-total}

@@ -1,42 +1,130 @@
--- The rows of the table: there is one answer, and rows asked one after the other answer as one. Assumes nothing.
-use mathlib.Core.Path.{_≡_, refl, sym, _∙_}
+-- The rows of the table: there is one answer, rows asked one after the other answer as one, and a row is named by its number, not counted
+-- from the top. Assumes nothing.
+use mathlib.Core.Path.{_≡_, refl, ap, sym, _∙_}
 use mathlib.Core.Logic.{inl, inr}
+use mathlib.Core.Bool.{Bool, true, false}
 use mathlib.Core.List.{List, [], _∷_, _++_}
-use Prim.Native.Nat.{ℕ, _≤_}
-use native.Mathlib.Omega.{arith}
-use Rattle.terms.specs.Rows.{Row, Answered, Accepted}
+use Prim.Native.Nat.{ℕ}
+use lib.Dec.{eqb}
+use Rattle.terms.specs.Rows.{Row, Accepted, Gives, RefusedBy, refusalOf}
+use Rattle.terms.specs.declared.Refusal.{Refusal}
 
--- no second number
-pub one-answer : (rows : List Row) (a b : ℕ) → Answered rows a → Answered rows b → a ≡ b
-unfolding Answered
-one-answer [] a b p q = p ∙ sym q
-one-answer (row ∷ rows) a b (inl (c, p)) (inl (d, q)) = p ∙ sym q
-one-answer (row ∷ rows) a b (inl (c, p)) (inr (n, y)) = absurd (n c)
-one-answer (row ∷ rows) a b (inr (n, x)) (inl (d, q)) = absurd (n d)
-one-answer (row ∷ rows) a b (inr (n, x)) (inr (m, y)) = one-answer rows a b x y
+-- ---- one answer
 
--- a refusal by the first rows is the answer of all
-pub refused-first : (rows later : List Row) (r : ℕ) → Answered rows r → 1 ≤ r → Answered (rows ++ later) r
-unfolding Answered
-refused-first [] later r e l = absurd (omega arith)
-refused-first (row ∷ rows) later r (inl x) l = inl x
-refused-first (row ∷ rows) later r (inr (n, x)) l = inr (n, refused-first rows later r x l)
+one-given : (row : Row) (a b : Refusal) → Gives row a → Gives row b → a ≡ b
+one-given row a b g h = ap (λ (k : ℕ). refusalOf k) (g .number-is ∙ sym (h .number-is))
 
--- no row of the table has number 0
-unfoldable pub Numbered : List Row → Type 0
-Numbered [] = Unit {0}
-Numbered (row ∷ rows) = (1 ≤ row .number) × Numbered rows
+-- no second refusal
+pub one-refusal : (rows : List Row) (a b : Refusal) → RefusedBy rows a → RefusedBy rows b → a ≡ b
+unfolding RefusedBy
+one-refusal [] a b x y = absurd x
+one-refusal (row ∷ rows) a b (inl g) (inl h) = one-given row a b g h
+one-refusal (row ∷ rows) a b (inl g) (inr (n, y)) = absurd (n (g .holds))
+one-refusal (row ∷ rows) a b (inr (n, x)) (inl h) = absurd (n (h .holds))
+one-refusal (row ∷ rows) a b (inr (n, x)) (inr (m, y)) = one-refusal rows a b x y
 
--- where the first rows accept, the later ones answer
-pub accepted-first : (rows later : List Row) (r : ℕ) → Numbered rows → Accepted rows → Answered later r → Answered (rows ++ later) r
-unfolding Answered Numbered
-accepted-first [] later r z e x = x
-accepted-first (row ∷ rows) later r (z, zs) (inl (c, p)) x = absurd (omega arith)
-accepted-first (row ∷ rows) later r (z, zs) (inr (n, y)) x = inr (n, accepted-first rows later r zs y x)
+-- rows that accept do not refuse
+pub not-both : {B : Type 0} (rows : List Row) (a : Refusal) → Accepted rows → RefusedBy rows a → B
+unfolding Accepted RefusedBy
+not-both [] a x y = absurd y
+not-both (row ∷ rows) a (n, x) (inl g) = absurd (n (g .holds))
+not-both (row ∷ rows) a (n, x) (inr (m, y)) = not-both rows a x y
 
--- and all accept exactly where both do
-pub accepted-both : (rows later : List Row) → Numbered rows → Accepted (rows ++ later) → Accepted rows × Accepted later
-unfolding Answered Numbered
-accepted-both [] later z x = (refl, x)
-accepted-both (row ∷ rows) later (z, zs) (inl (c, p)) = absurd (omega arith)
-accepted-both (row ∷ rows) later (z, zs) (inr (n, y)) = let both = accepted-both rows later zs y in (inr (n, both .0), both .1)
+-- ---- rows asked one after the other
+
+-- a refusal by the first rows is the refusal of all
+pub refused-first : (rows later : List Row) (a : Refusal) → RefusedBy rows a → RefusedBy (rows ++ later) a
+unfolding RefusedBy
+refused-first [] later a x = absurd x
+refused-first (row ∷ rows) later a (inl g) = inl g
+refused-first (row ∷ rows) later a (inr (n, x)) = inr (n, refused-first rows later a x)
+
+-- where the first rows accept, the later ones refuse
+pub refused-later : (rows later : List Row) (a : Refusal) → Accepted rows → RefusedBy later a → RefusedBy (rows ++ later) a
+unfolding Accepted RefusedBy
+refused-later [] later a x y = y
+refused-later (row ∷ rows) later a (n, x) y = inr (n, refused-later rows later a x y)
+
+-- and the other way round
+pub refused-rest : (rows later : List Row) (a : Refusal) → Accepted rows → RefusedBy (rows ++ later) a → RefusedBy later a
+unfolding Accepted RefusedBy
+refused-rest [] later a x y = y
+refused-rest (row ∷ rows) later a (n, x) (inl g) = absurd (n (g .holds))
+refused-rest (row ∷ rows) later a (n, x) (inr (m, y)) = refused-rest rows later a x y
+
+-- all accept exactly where both do
+pub accepted-join : (rows later : List Row) → Accepted rows → Accepted later → Accepted (rows ++ later)
+unfolding Accepted
+accepted-join [] later x y = y
+accepted-join (row ∷ rows) later (n, x) y = (n, accepted-join rows later x y)
+
+pub accepted-both : (rows later : List Row) → Accepted (rows ++ later) → Accepted rows × Accepted later
+unfolding Accepted
+accepted-both [] later x = (tt, x)
+accepted-both (row ∷ rows) later (n, x) = let both = accepted-both rows later x in ((n, both .0), both .1)
+
+-- ---- test by test
+
+-- none of the rows before the rest holds: what the rest answers, all answer
+pub record Passed (rows rest : List Row) : Type 0 where
+  pub accepts : Accepted rest → Accepted rows
+  pub refuses : (a : Refusal) → RefusedBy rest a → RefusedBy rows a
+
+pub begin : (rows : List Row) → Passed rows rows
+begin rows = record { accepts = λ x. x; refuses = λ a x. x }
+
+-- one more row does not hold
+pub past : {rows rest : List Row} {row : Row} → Passed rows (row ∷ rest) → ¬ row .holds → Passed rows rest
+unfolding Accepted RefusedBy
+past p n = record { accepts = λ x. p .accepts (n, x); refuses = λ a x. p .refuses a (inr (n, x)) }
+
+-- some more rows do not
+pub past-all : {rows rest : List Row} (some : List Row) → Passed rows (some ++ rest) → Accepted some → Passed rows rest
+past-all {rest = rest} some p x = record {
+  accepts = λ y. p .accepts (accepted-join some rest x y);
+  refuses = λ a y. p .refuses a (refused-later some rest a x y);
+}
+
+-- the next row holds
+pub stop : {rows rest : List Row} {row : Row} → Passed rows (row ∷ rest) → row .holds → RefusedBy rows (refusalOf (row .number))
+unfolding RefusedBy
+stop p h = p .refuses _ (inl (record { holds = h; number-is = refl }))
+
+-- there is none left
+pub done : {rows : List Row} → Passed rows [] → Accepted rows
+unfolding Accepted
+done p = p .accepts tt
+
+-- ---- a row by its number
+
+abbrev choose : Bool → List Row → List Row → List Row
+choose true a b = a
+choose false a b = b
+
+-- the rows from number k on
+unfoldable pub from : ℕ → List Row → List Row
+from k [] = []
+from k (row ∷ rows) = choose (eqb (row .number) k) (row ∷ rows) (from k rows)
+
+-- none of the rows before number k holds
+abbrev pub Before : ℕ → List Row → Type 0
+Before k rows = Passed rows (from k rows)
+
+abbrev either : Bool → Type 0 → Type 0 → Type 0
+either true A B = A
+either false A B = B
+
+-- the condition of the first row with number k
+unfoldable pub holdsOf : ℕ → List Row → Type 0
+holdsOf k [] = ⊥
+holdsOf k (row ∷ rows) = either (eqb (row .number) k) (row .holds) (holdsOf k rows)
+
+-- in rows that accept, the row with number k does not hold
+pub none-holds : (k : ℕ) (rows : List Row) → Accepted rows → ¬ holdsOf k rows
+unfolding Accepted holdsOf
+none-holds k [] x h = h
+none-holds k (row ∷ rows) (n, x) h = go (none-holds k rows x) (eqb (row .number) k) h
+  where
+    go : ¬ holdsOf k rows → (b : Bool) → either b (row .holds) (holdsOf k rows) → ⊥
+    go rest true h = n h
+    go rest false h = rest h

@@ -5,21 +5,16 @@ use Prim.Native.Nat.{ℕ, zero, suc, _+_, _-_, _*_, _≤_}
 use native.Mathlib.Nat.{mul-le-mul-left, le-of-mul-le-mul-left, le-dest, mul-le-mul}
 use native.Mathlib.Omega.{arith}
 use Rattle.terms.specs.Graphs.{Among, In16Bits}
+use Rattle.terms.specs.Paths.{totalWork, IsLongest}
 use Rattle.terms.specs.Verdicts.{bound}
-use Rattle.terms.specs.Replies.{IsMeasure}
-use Rattle.terms.specs.declared.Weights.{Weights}
-use Rattle.terms.specs.declared.Measure.the-variants.{Is}
-use Rattle.theory.proofs.Accepted.{sound-graph}
+use Rattle.theory.specs.Sound.{SoundGraph}
 use Rattle.theory.proofs.Work.{total-small}
 use Rattle.theory.proofs.Paths.{longest-total}
 
--- what a measured graph promises
-pub measured-small : (times : List ℕ) (arrows : List (List ℕ)) (weights : Weights) → In16Bits times → IsMeasure times arrows (Is weights)
-    → (weights .path ≤ weights .work) × (weights .work ≤ 16776960)
-unfolding IsMeasure
-measured-small times arrows weights bits (a, c, l) =
-    let g = sound-graph times arrows a in
-    (omega (arith, longest-total (weights .path) g l), omega (arith, total-small g bits))
+-- what was measured of a graph that is accepted
+pub measured-small : {times : List ℕ} {arrows : List (List ℕ)} (P : ℕ) → SoundGraph times arrows → In16Bits times → IsLongest times arrows P
+    → (P ≤ totalWork times) × (totalWork times ≤ 16776960)
+measured-small P g bits l = (longest-total P g l, total-small g bits)
 
 -- a longer path makes S no smaller
 pub bound-mono : (C P Q M : ℕ) → P ≤ Q → bound C P M ≤ bound C Q M

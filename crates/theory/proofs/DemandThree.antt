@@ -6,7 +6,7 @@ use native.Mathlib.Nat.{le-of-mul-le-mul-left}
 use native.Mathlib.Omega.{arith}
 use lib.ListN.{length, take}
 use Rattle.terms.specs.Rows.{Accepted}
-use Rattle.terms.specs.Graphs.{Among, IsSubtask, timeOf, In16Bits}
+use Rattle.terms.specs.Graphs.{Among, IsSubtask, timeOf}
 use Rattle.terms.specs.Paths.{totalWork, IsLongest}
 use Rattle.terms.specs.Verdicts.{bound, IsVerdict, loadOf}
 use Rattle.terms.specs.Refusals.{graphRows, verdictRows}
@@ -87,6 +87,6 @@ demand-three-dropped times arrows M D answer times′ arrows′ M′ is says sam
     demand-three times arrows M D answer times′ arrows′ M′ is says (dropped-altered dropped g same shorter wider)
 
 -- and the list plan, which is an accepted one, ends by D too
-pub list-plan-in-time : (times : List ℕ) (arrows : List (List ℕ)) (M D : ℕ) (order : List ℕ) (before after : List Entry) (E : ℕ) → InTime times arrows M D → In16Bits times
+pub list-plan-in-time : (times : List ℕ) (arrows : List (List ℕ)) (M D : ℕ) (order : List ℕ) (before after : List Entry) (E : ℕ) → InTime times arrows M D
     → IsListed times arrows M order before after (Ends E) → E ≤ D
-list-plan-in-time times arrows M D order before after E t bits h = t .ends (take (length times) after) E (listed-checked times arrows M order before after E bits h)
+list-plan-in-time times arrows M D order before after E t h = t .ends (take (length times) after) E (listed-checked times arrows M order before after E h)

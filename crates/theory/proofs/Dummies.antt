@@ -25,10 +25,10 @@ use Rattle.terms.specs.declared.Verdict.the-variants.{Fits, Late}
 use Rattle.terms.proofs.Examples.{timesG, arrowsG, orderG, fewerG, ListPlanEnds, examples}
 use Rattle.terms.proofs.AlteredG.{dropped-G}
 use Rattle.theory.specs.Sound.{SoundGraph}
-use Rattle.theory.proofs.Accepted.{sound-graph, read-as-graph, busy-plan, accepted-plan, accepted-verdict}
+use Rattle.theory.proofs.Accepted.{sound-graph, read-accepted, busy-plan, accepted-plan, accepted-verdict}
 use Rattle.theory.proofs.Paths.{one-longest}
 use Rattle.theory.proofs.ListRule.{by-rule, still-early, ends-early}
-use Rattle.theory.proofs.OneReply.{not-both}
+use Rattle.theory.proofs.Answers.{not-both}
 use Rattle.theory.proofs.Dropping.{dropped-altered}
 use Rattle.theory.proofs.Pairs.{none-precedes, both, first, second, pair-sound, pair-longest, pair-total, inTurn, pair-order, one-processor, pair-figures, pair-listed, short, short-sound, short-accepted, turns, turns-busy}
 use Rattle.terms.specs.declared.Check.the-variants as check
@@ -44,7 +44,7 @@ pub refuses-graph : (r : Refusal) → ¬ IsCheck (graphRows short []) (check.Ref
 unfolding IsCheck
 refuses-graph r h = not-both (graphRows short []) r short-accepted h
 
-pub refuses-measure : (r : Refusal) → ¬ IsMeasure short [] (measure.Refused r)
+pub refuses-measure : (r : Refusal) → ¬ IsMeasure (graphRows short []) short [] (measure.Refused r)
 unfolding IsMeasure
 refuses-measure r h = not-both (graphRows short []) r short-accepted h
 
@@ -85,7 +85,7 @@ pub refuses-text : (timesRow : List ℕ) (arrowsRow : List (List ℕ)) (r : Refu
 unfolding IsReplyTo
 refuses-text timesRow arrowsRow r h =
     let q : IsReplyTo (graph short []) 256 2048 timesRow arrowsRow (counts.Refused r) = rw text-reads at h in
-    not-both (timeAndArrowRows short []) r (read-as-graph short [] 0 (short-sound .count) short-accepted) (q .0)
+    not-both (timeAndArrowRows short []) r (read-accepted short [] short-accepted) (q .0)
 
 -- ---- calls every graph late: the same input, S = 2 and M × D = 2
 

@@ -17,7 +17,9 @@ use Rattle.terms.specs.declared.PlanEnd.the-variants.{Ends}
 use Rattle.theory.specs.Sound.{SoundGraph}
 use Rattle.theory.proofs.SoundPlans.{BusyPlan}
 use Rattle.theory.proofs.Accepted.{from-subtask, busy-plan}
-use Rattle.theory.proofs.Sums.{sum, sum-zero, sum-le, sum-add, sum-const, sum-scale, sum-mono, sum-upto, sum-cut, bit, bit-yes, bit-no, bit-le}
+use Rattle.terms.specs.Sums.{sum}
+use Rattle.theory.specs.Counting.{bit}
+use Rattle.theory.proofs.Sums.{sum-zero, sum-le, sum-add, sum-const, sum-scale, sum-mono, sum-upto, sum-cut, bit-yes, bit-no, bit-le}
 use Rattle.theory.proofs.Search.{search, LastOrNone, last, strong}
 use Rattle.theory.proofs.Running.{decPrecedes, running, counted, running-sum, free-when-fewer}
 use Rattle.theory.proofs.NoGap.{some-runs}

@@ -1,7 +1,13 @@
 -- counting and searching
 pub mod Sums
+pub mod Counting
+pub mod Tallies
 pub mod Search
 pub mod Pigeonhole
+-- tables and loops
+pub mod Stores
+pub mod Firsts
+pub mod Rounds
 -- the table
 pub mod Answers
 pub mod SoundPlans

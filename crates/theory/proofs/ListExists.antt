@@ -12,7 +12,9 @@ use Rattle.terms.specs.Plans.{notPlaced, processorOf, Placed, ReadyAt, FreeAt, 
 use Rattle.terms.specs.ListRule.{IsOrder, Goes, put, ByRule, begin, goes, tick, IsListPlan}
 use Rattle.terms.specs.declared.Entry.{Entry}
 use Rattle.theory.specs.Sound.{SoundGraph}
-use Rattle.theory.proofs.Sums.{sum, sum-le, sum-add, sum-const, bit, bit-yes, bit-no, bit-le, own-one}
+use Rattle.terms.specs.Sums.{sum}
+use Rattle.theory.specs.Counting.{bit}
+use Rattle.theory.proofs.Sums.{sum-le, sum-add, sum-const, bit-yes, bit-no, bit-le, own-one}
 use Rattle.theory.proofs.Pigeonhole.{onto}
 use Rattle.terms.proofs.Decide.{seek, decReady, decFree}
 use Rattle.terms.proofs.Tables.{FirstReady, LowestFree, one-goes}

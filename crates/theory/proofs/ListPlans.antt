@@ -40,20 +40,18 @@ module _ (times : List ℕ) (arrows : List (List ℕ)) (M : ℕ) (order : List �
       (p .0, p .1, accepted-plan times arrows M (p .0) g b, b .sound .starts)
 
   -- so the list plan has a reply that ends, and a row to leave, for every input that it accepts
-  pub listed-exists : (before : List Entry) → Accepted (listRows times arrows M order (length before))
+  pub listed-exists : (before : List Entry) → In16Bits times → Accepted (listRows times arrows M order (length before))
       → (after : List Entry) × (E : ℕ) × IsListed times arrows M order before after (Ends E)
-  unfolding IsListed
-  listed-exists before a =
+  unfolding IsListed IsChecked
+  listed-exists before bits a =
       let s = sound-list times arrows M order (length before) a in
-      let p = list-exists times arrows order M (s .2) (s .0) (s .1 .low) in
+      let p = list-plan-exists (accepted-graph times arrows (s .0)) bits (s .1) (s .2) in
       let e = ends times (p .0) (s .0 .count .low) in
       let cut = seam (p .0) (drop (length times) before) (length times) (by-rule times arrows M (s .0) order (s .2) (p .1 .made) .whole) in
-      (p .0 ++ drop (length times) before, e .0, (a, record { plan = rw (cut .0) (p .1); past = cut .1; ends = rw (cut .0) (e .1) }))
+      (p .0 ++ drop (length times) before, e .0, (a, record { plan = rw (cut .0) (p .1); past = cut .1; checked = rw (cut .0) (p .2, e .1) }))
 
   -- where the list plan replies E, the plan check replies E for what it left in the row
-  pub listed-checked : (before after : List Entry) (E : ℕ) → In16Bits times → IsListed times arrows M order before after (Ends E)
+  pub listed-checked : (before after : List Entry) (E : ℕ) → IsListed times arrows M order before after (Ends E)
       → IsChecked times arrows M (take (length times) after) (Ends E)
-  unfolding IsListed IsChecked
-  listed-checked before after E bits (a, h) =
-      let s = sound-list times arrows M order (length before) a in
-      (list-plan-accepted (take (length times) after) (accepted-graph times arrows (s .0)) bits (s .1) (s .2) (h .plan), h .ends)
+  unfolding IsListed
+  listed-checked before after E (a, h) = h .checked

@@ -15,7 +15,9 @@ use Rattle.terms.specs.declared.Entry.{Entry}
 use Rattle.theory.specs.Sound.{SoundGraph}
 use Rattle.theory.proofs.SoundPlans.{BusyPlan}
 use Rattle.theory.proofs.Accepted.{from-subtask, to-subtask}
-use Rattle.theory.proofs.Sums.{sum, sum-le, sum-add, sum-const, sum-swap, bit, bit-yes, bit-no}
+use Rattle.terms.specs.Sums.{sum}
+use Rattle.theory.specs.Counting.{bit}
+use Rattle.theory.proofs.Sums.{sum-le, sum-add, sum-const, sum-swap, bit-yes, bit-no}
 use Rattle.theory.proofs.Work.{total-sum}
 use Rattle.theory.proofs.Paths.{own}
 use Rattle.theory.proofs.Running.{runs, running, counted, runs-none, runs-most}

@@ -10,7 +10,9 @@ use Rattle.terms.specs.Graphs.{IsSubtask, timeOf, fromOf, toOf, Precedes}
 use Rattle.terms.specs.Paths.{PathTo, alone, along, weight, IsLongest}
 use Rattle.theory.specs.Sound.{SoundGraph}
 use Rattle.theory.proofs.Accepted.{from-subtask, to-subtask}
-use Rattle.theory.proofs.Sums.{sum, sum-le, sum-add, sum-const, bit, own-one}
+use Rattle.terms.specs.Sums.{sum}
+use Rattle.theory.specs.Counting.{bit}
+use Rattle.theory.proofs.Sums.{sum-le, sum-add, sum-const, own-one}
 use Rattle.theory.proofs.Search.{largest}
 use Rattle.theory.proofs.Paths.{visits, visits-once, end-subtask}
 

@@ -21,7 +21,7 @@ use Rattle.terms.specs.declared.Outcome.{Outcome}
 use Rattle.terms.specs.declared.Answer.{Answer}
 use Rattle.terms.specs.declared.PlanEnd.{PlanEnd}
 use Rattle.terms.specs.declared.Counts.{Counts}
-use Rattle.theory.proofs.Answers.{one-answer}
+use Rattle.theory.proofs.Answers.{one-refusal, not-both}
 use Rattle.theory.proofs.Accepted.{sound-list}
 use Rattle.theory.proofs.Paths.{one-longest}
 use Rattle.theory.proofs.Ends.{one-end}
@@ -34,14 +34,7 @@ use Rattle.terms.specs.declared.Outcome.the-variants as outcome
 use Rattle.terms.specs.declared.PlanEnd.the-variants as planEnd
 use Rattle.terms.specs.declared.Counts.the-variants as counts
 
--- ---- refusals
-
-one-refusal : (rows : List Row) (a b : Refusal) → RefusedBy rows a → RefusedBy rows b → a ≡ b
-one-refusal rows a b p q = ap (λ (n : ℕ). record { number = n }) (one-answer rows (a .number) (b .number) (p .answered) (q .answered))
-
--- rows that accept do not refuse
-pub not-both : {B : Type 0} (rows : List Row) (a : Refusal) → Accepted rows → RefusedBy rows a → B
-not-both rows a p q = absurd (omega (arith, q .refuses, one-answer rows 0 (a .number) p (q .answered)))
+-- ---- the graph
 
 pub one-check : (rows : List Row) (a b : Check) → IsCheck rows a → IsCheck rows b → a ≡ b
 unfolding IsCheck
@@ -53,13 +46,13 @@ one-check rows (check.Refused a) (check.Refused b) p q = ap check.Refused (one-r
 -- ---- C and P
 
 module _ (times : List ℕ) (arrows : List (List ℕ)) where
-  pub one-measure : (a b : Measure) → IsMeasure times arrows a → IsMeasure times arrows b → a ≡ b
+  pub one-measure : (rows : List Row) (a b : Measure) → IsMeasure rows times arrows a → IsMeasure rows times arrows b → a ≡ b
   unfolding IsMeasure
-  one-measure (measure.Is a) (measure.Is b) p q =
-      ap₂ (λ (C P : ℕ). measure.Is (record { work = C; path = P })) (p .1 ∙ sym (q .1)) (one-longest (a .path) (b .path) (p .2) (q .2))
-  one-measure (measure.Is a) (measure.Refused b) p q = not-both (graphRows times arrows) b (p .0) q
-  one-measure (measure.Refused a) (measure.Is b) p q = not-both (graphRows times arrows) a (q .0) p
-  one-measure (measure.Refused a) (measure.Refused b) p q = ap measure.Refused (one-refusal (graphRows times arrows) a b p q)
+  one-measure rows (measure.Is a) (measure.Is b) p q =
+      ap₂ (λ (C P : ℕ). measure.Is (record { c = C; p = P })) (p .1 ∙ sym (q .1)) (one-longest (a .p) (b .p) (p .2) (q .2))
+  one-measure rows (measure.Is a) (measure.Refused b) p q = not-both rows b (p .0) q
+  one-measure rows (measure.Refused a) (measure.Is b) p q = not-both rows a (q .0) p
+  one-measure rows (measure.Refused a) (measure.Refused b) p q = ap measure.Refused (one-refusal rows a b p q)
 
   pub one-total-work : (a b : Amount) → IsTotalWork times arrows a → IsTotalWork times arrows b → a ≡ b
   unfolding IsTotalWork
@@ -122,11 +115,11 @@ module _ (times : List ℕ) (arrows : List (List ℕ)) (M : ℕ) where
   -- the reply, and the lent row
   pub one-listed : (order : List ℕ) (before after other : List Entry) (a b : PlanEnd) → IsListed times arrows M order before after a → IsListed times arrows M order before other b
       → (a ≡ b) × (after ≡ other)
-  unfolding IsListed
+  unfolding IsListed IsChecked
   one-listed order before after other (planEnd.Ends E) (planEnd.Ends F) (p, h) (q, k) =
       let s = sound-list times arrows M order (length before) p in
       let e = one-list times arrows order M (s .2) (s .0) (take (length times) after) (take (length times) other) (h .plan) (k .plan) in (
-        ap planEnd.Ends (one-end times (take (length times) after) E F (h .ends) (rw (← e) at (k .ends))),
+        ap planEnd.Ends (one-end times (take (length times) after) E F (h .checked .1) (rw (← e) at (k .checked .1))),
         sym (take-append-drop (length times) after) ∙ ap₂ (λ (x y : List Entry). x ++ y) e (h .past ∙ sym (k .past)) ∙ take-append-drop (length times) other,
       )
   one-listed order before after other (planEnd.Ends E) (planEnd.Refused b) p q = not-both (listRows times arrows M order (length before)) b (p .0) (q .0)
@@ -141,7 +134,7 @@ one-reading : (reading : Reading) (timesRoom arrowsRoom : ℕ) (timesRow timesRo
     → (a ≡ b) × (timesRow ≡ timesRow′) × (arrowsRow ≡ arrowsRow′)
 unfolding IsReplyTo
 one-reading (refuse k) n m x y u v (counts.Refused a) (counts.Refused b) (p, h) (q, i) =
-    (ap counts.Refused (ap (λ (r : ℕ). record { number = r }) (p ∙ sym q)), h .timesHeld ∙ sym (i .timesHeld), h .arrowsHeld ∙ sym (i .arrowsHeld))
+    (ap counts.Refused (p ∙ sym q), h .timesHeld ∙ sym (i .timesHeld), h .arrowsHeld ∙ sym (i .arrowsHeld))
 one-reading (refuse k) n m x y u v (counts.Refused a) (counts.Read b) p q = absurd q
 one-reading (refuse k) n m x y u v (counts.Read a) b p q = absurd p
 one-reading (graph times arrows) n m x y u v (counts.Refused a) (counts.Refused b) (p, h) (q, i) =

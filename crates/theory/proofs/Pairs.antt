@@ -8,6 +8,7 @@ use native.Mathlib.Omega.{arith}
 use lib.ListN.{length, getD}
 use Rattle.terms.specs.Rows.{Accepted}
 use Rattle.terms.specs.Graphs.{Among, IsSubtask, timeOf, Precedes, LeadsTo, step, more}
+use Rattle.terms.specs.Sums.{sum}
 use Rattle.terms.specs.Paths.{totalWork, PathTo, alone, along, weight, IsLongest}
 use Rattle.terms.specs.Verdicts.{bound, AreFigures}
 use Rattle.terms.specs.Plans.{at, processorOf, startOf, endOf, Placed, IdleAt}
@@ -70,7 +71,7 @@ unfolding timeOf
 pair-longest t u l = loose-longest (t ∷ u ∷ []) 2 second (both (λ j. timeOf (t ∷ u ∷ []) j ≤ u) l (le-refl u))
 
 pub pair-total : (t u : ℕ) → totalWork (t ∷ u ∷ []) ≡ t + u
-unfolding totalWork
+unfolding totalWork sum timeOf
 pair-total t u = omega arith
 
 abbrev pub inTurn : List ℕ

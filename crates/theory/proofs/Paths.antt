@@ -11,7 +11,9 @@ use Rattle.terms.specs.Graphs.{IsSubtask, timeOf, Precedes, LeadsTo, step, more
 use Rattle.terms.specs.Paths.{totalWork, PathTo, alone, along, weight, IsLongest}
 use Rattle.theory.specs.Sound.{SoundGraph}
 use Rattle.theory.proofs.Accepted.{to-subtask}
-use Rattle.theory.proofs.Sums.{sum, sum-le, sum-add, bit, bit-yes, bit-no, bit-le, sum-term₁}
+use Rattle.terms.specs.Sums.{sum}
+use Rattle.theory.specs.Counting.{bit}
+use Rattle.theory.proofs.Sums.{sum-le, sum-add, bit-yes, bit-no, bit-le, sum-term₁}
 use Rattle.theory.proofs.Work.{total-sum}
 
 -- the time of j is a term of the sum of the visits to j

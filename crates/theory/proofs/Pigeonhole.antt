@@ -5,7 +5,9 @@ use Prim.Native.Nat.{ℕ, suc, _≤_, _<_}
 use native.Mathlib.Omega.{arith}
 use native.Mathlib.Decide.{decLt, ℕ-discrete}
 use Rattle.terms.specs.Graphs.{Among}
-use Rattle.theory.proofs.Sums.{sum, sum-le, sum-const, sum-swap, bit, bit-yes, bit-no, bit-le, bit-one, sum-lone, sum-term₁}
+use Rattle.terms.specs.Sums.{sum}
+use Rattle.theory.specs.Counting.{bit}
+use Rattle.theory.proofs.Sums.{sum-le, sum-const, sum-swap, bit-yes, bit-no, bit-le, bit-one, sum-lone, sum-term₁}
 use Rattle.theory.proofs.Search.{LastOrNone, last}
 
 -- more places than values: two places hold the same

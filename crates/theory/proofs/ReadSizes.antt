@@ -1,7 +1,7 @@
 -- A graph that was read has at most 256 subtasks and 2,048 arrows. Assumes nothing.
 use mathlib.Core.Path.{_≡_, refl, sym, _∙_}
 use mathlib.Core.Bool.{Bool, true, false, _&&_, and-false}
-use mathlib.Core.Logic.{inl, inr, by-cases}
+use mathlib.Core.Logic.{by-cases}
 use mathlib.Core.List.{List, [], _∷_}
 use Prim.Native.Nat.{ℕ, zero, suc, _+_, _≤_}
 use native.Mathlib.Omega.{arith}
@@ -9,12 +9,13 @@ use native.Mathlib.Decide.{decLe}
 use borrow.Author.Tests.{lt-leb}
 use lib.Dec.{leb}
 use lib.ListN.{length, getD}
-use Rattle.terms.specs.Rows.{Answered, Accepted}
-use Rattle.terms.specs.Refusals.{timeAndArrowRows}
+use Rattle.terms.specs.Rows.{Accepted}
+use Rattle.terms.specs.Refusals.{timeRows, sizeRows, timeAndArrowRows}
 use Rattle.terms.specs.Texts.{lines, proper, numbers}
 use Rattle.terms.specs.Readings.{Reading, refuse, graph, need, lineAtHand, linesAfter, isSize, isFirst, sizeIn, isTask, timeIn, predecessorsIn, arrowsInto, isEntryDummy, isExitDummy, mayFollow, withTask, trailer, exitLine, taskLines, entryLine, readLines, readText, IsReplyTo, IsRead}
 use Rattle.terms.specs.declared.GraphSize.{GraphSize}
 use Rattle.terms.specs.declared.Counts.the-variants.{Read}
+use Rattle.theory.proofs.Answers.{holdsOf, none-holds}
 
 -- how many subtasks a reading has
 count : Reading → ℕ
@@ -110,10 +111,8 @@ count-text timesRoom arrowsRoom text =
 
 -- at most 2,048 arrows, where 3 does not hold
 few-arrows : (times : List ℕ) (arrows : List (List ℕ)) → Accepted (timeAndArrowRows times arrows) → length arrows ≤ 2048
-unfolding timeAndArrowRows Answered
-few-arrows times arrows (inl (h, e)) = absurd (omega arith)
-few-arrows times arrows (inr (h, inl (k, e))) = absurd (omega arith)
-few-arrows times arrows (inr (h, inr (k, a))) = by-cases (decLe (length arrows) 2048) (λ l. l) (λ l. absurd (k (omega arith)))
+unfolding timeAndArrowRows timeRows sizeRows holdsOf
+few-arrows times arrows a = by-cases (decLe (length arrows) 2048) (λ l. l) (λ l. absurd (none-holds 3 (timeAndArrowRows times arrows) a (omega arith)))
 
 sizes : (reading : Reading) (timesRoom arrowsRoom : ℕ) (timesRow : List ℕ) (arrowsRow : List (List ℕ)) (size : GraphSize) → count reading ≤ 256
     → IsReplyTo reading timesRoom arrowsRoom timesRow arrowsRow (Read size) → (size .subtasks ≤ 256) × (size .arrows ≤ 2048)

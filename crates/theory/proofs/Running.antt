@@ -14,7 +14,9 @@ use Rattle.terms.specs.declared.Entry.{Entry}
 use Rattle.terms.proofs.Decide.{via, decSome}
 pub use Rattle.terms.proofs.Decide.{decRuns}
 use Rattle.theory.proofs.SoundPlans.{SoundPlan}
-use Rattle.theory.proofs.Sums.{sum, sum-zero, sum-le, sum-eq, sum-add, sum-const, sum-swap, sum-mono, bit, bit-yes, bit-no, bit-le, bit-one, bit-mono, sum-one, sum-lone, window, sum-term₁}
+use Rattle.terms.specs.Sums.{sum}
+use Rattle.theory.specs.Counting.{bit}
+use Rattle.theory.proofs.Sums.{sum-zero, sum-le, sum-eq, sum-add, sum-const, sum-swap, sum-mono, bit-yes, bit-no, bit-le, bit-one, bit-mono, sum-one, sum-lone, window, sum-term₁}
 use Rattle.theory.proofs.Search.{search}
 use Rattle.theory.proofs.Work.{total-sum}
 

@@ -5,12 +5,9 @@ use Prim.Native.Nat.{ℕ, zero, suc, _+_, _*_, _≤_, _<_}
 use native.Mathlib.Nat.{add-zero, add-suc, le-refl, zero-mul, mul-zero}
 use native.Mathlib.Omega.{arith}
 use native.Mathlib.Decide.{decLe, ℕ-discrete, le-ind}
+use Rattle.terms.specs.Sums.{sum}
 use Rattle.terms.specs.Graphs.{Among}
-
--- f 0 + .. + f (n - 1)
-unfoldable pub sum : ℕ → (ℕ → ℕ) → ℕ
-sum zero f = 0
-sum (suc n) f = sum n f + f n
+use Rattle.theory.specs.Counting.{bit}
 
 pub sum-zero : (n : ℕ) (f : ℕ → ℕ) → ((i : ℕ) → i < n → f i ≡ 0) → sum n f ≡ 0
 unfolding sum
@@ -84,10 +81,6 @@ sum-cut m n f l h = go n l h
         (λ (g : ¬ (m ≤ n)). let e : suc n ≡ m = omega arith in ap (λ (k : ℕ). sum k f) e)
 
 -- ---- yes and no as 1 and 0
-
-unfoldable pub bit : {A : Type 0} → Dec A → ℕ
-bit (yes a) = 1
-bit (no h) = 0
 
 pub bit-yes : {A : Type 0} (d : Dec A) → A → bit d ≡ 1
 unfolding bit

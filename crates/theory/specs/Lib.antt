@@ -1,1 +1,4 @@
 pub mod Sound
+pub mod First
+pub mod Flags
+pub mod Counting

@@ -48,32 +48,3 @@ unfolding tally
 tally-all kind marks zero h = refl
 tally-all kind marks (suc n) h =
     omega (arith, h (suc n) (record { low = omega arith; high = omega arith }), tally-all kind marks n (λ v t. h v (record { low = t .low; high = omega (arith, t .high) })))
-
--- the marks of the walk: 1 is new, 0 is placed
-pub new : ℕ → ℕ
-new zero = 0
-new (suc zero) = 1
-new (suc (suc mark)) = 0
-
-pub unplaced : ℕ → ℕ
-unplaced zero = 0
-unplaced (suc mark) = 1
-
-pub new-is : (mark : ℕ) → mark ≡ 1 → new mark ≡ 1
-unfolding new
-new-is mark e = ap new e
-
-pub new-not : (mark : ℕ) → ¬ (mark ≡ 1) → new mark ≡ 0
-unfolding new
-new-not zero h = refl
-new-not (suc zero) h = absurd (h refl)
-new-not (suc (suc mark)) h = refl
-
-pub unplaced-is : (mark : ℕ) → ¬ (mark ≡ 0) → unplaced mark ≡ 1
-unfolding unplaced
-unplaced-is zero h = absurd (h refl)
-unplaced-is (suc mark) h = refl
-
-pub unplaced-not : (mark : ℕ) → mark ≡ 0 → unplaced mark ≡ 0
-unfolding unplaced
-unplaced-not mark e = ap unplaced e

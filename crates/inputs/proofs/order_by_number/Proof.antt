@@ -1,4 +1,4 @@
--- `in_turn`: each place holds its number, counted from 1. Assumes nothing.
+-- `order_by_number`: each place holds its number, counted from 1. Assumes nothing.
 use mathlib.Core.Path.{_≡_, refl, _∙_}
 use mathlib.Core.List.{List}
 use Prim.Native.Nat.{ℕ, _+_, _-_, _≤_, _<_}
@@ -7,8 +7,8 @@ use lib.ListN.{length, getD, set, length-set}
 use lib.Seq.{getD-set-same, getD-set-other}
 use borrow.Author.Count.{below-more}
 use borrow.Author.Needs.{needs}
-use Rattle.lent.proofs.in_turn.Statement.{statement}
-use Rattle.lent.proofs.in_turn.Tie as tie
+use Rattle.inputs.proofs.order_by_number.Statement.{statement}
+use Rattle.inputs.proofs.order_by_number.Tie as tie
 
 -- the places below j hold their numbers
 abbrev Filled : List ℕ → ℕ → Type 0
@@ -31,14 +31,14 @@ loop-holds c = (refl, omega arith, λ i l. absurd (omega (arith, l)))
 add-order : tie.Need-add-order Inv-loop μ-loop
 add-order c = search needs
 
-wide-requires : tie.Need-wide-requires Inv-loop μ-loop
-wide-requires c κs = search needs
+usize-from-u16-requires : tie.Need-usize-from-u16-requires Inv-loop μ-loop
+usize-from-u16-requires c κs = search needs
 
 mul-order : tie.Need-mul-order Inv-loop μ-loop
 mul-order c = search needs
 
 array-write-order : tie.Need-array-write-order Inv-loop μ-loop
-array-write-order c = omega (arith, c .wide .ensures .0)
+array-write-order c = omega (arith, c .usize-from-u16 .ensures .0)
 
 add-j : tie.Need-add-j Inv-loop μ-loop
 add-j c = search needs
@@ -49,21 +49,21 @@ loop-less c = search needs
 loop-again : tie.Need-loop-again Inv-loop μ-loop
 loop-again c =
     let turn = c .before .before .loop in
-    rw (c .wide .ensures .0)
+    rw (c .usize-from-u16 .ensures .0)
     (length-set (turn .order) (turn .j) (turn .j + 1) ∙ turn .inv .0, omega arith, one-more (turn .order) (turn .j) (omega (arith, turn .inv .0)) (turn .inv .2))
 
 returns : tie.Need-returns Inv-loop μ-loop
 returns c = (c .before .loop .inv .0, λ i l. c .before .loop .inv .2 i (omega (arith, l)))
 
-pub in-turn-spec : {M : Type 1} → statement M
-in-turn-spec =
+pub order-by-number-spec : {M : Type 1} → statement M
+order-by-number-spec =
     tie.close
     (tie.spec
     Inv-loop
     μ-loop
     loop-holds
     add-order
-    wide-requires
+    usize-from-u16-requires
     mul-order
     array-write-order
     add-j

@@ -1,4 +1,4 @@
--- Counting the places that are so, the noughts of a row, and the sum of a row after a store. Assumes nothing.
+-- Counting the places that are so, and the noughts of a row. Assumes nothing.
 use mathlib.Core.Path.{_≡_}
 use mathlib.Core.Logic.{_≢_, _⊎_, inl, inr, by-cases}
 use mathlib.Core.List.{List, [], _∷_}
@@ -6,8 +6,7 @@ use Prim.Native.Nat.{ℕ, zero, suc, _+_, _-_, _≤_, _<_}
 use native.Mathlib.Omega.{arith}
 use native.Mathlib.Decide.{ℕ-discrete}
 use lib.ListN.{length, getD, set}
-use Rattle.terms.specs.Paths.{totalWork}
-use Rattle.listplan.specs.Tables.{Count}
+use Rattle.theory.specs.Counting.{Count}
 
 -- the same places, the same count
 pub count-same : (A B : ℕ → Type 0) (n k : ℕ) → ((a : ℕ) → a < n → A a → B a) → ((a : ℕ) → a < n → B a → A a) → Count A n k → Count B n k
@@ -90,11 +89,3 @@ noughts-emptied (zero ∷ xs) zero l h = absurd (omega arith)
 noughts-emptied (suc x ∷ xs) zero l h = omega arith
 noughts-emptied (zero ∷ xs) (suc i) l h = omega (arith, noughts-emptied xs i (omega arith) h)
 noughts-emptied (suc x ∷ xs) (suc i) l h = noughts-emptied xs i (omega arith) h
-
--- ---- the sum of a row
-
-pub total-set : (l : List ℕ) (i a : ℕ) → i < length l → totalWork (set l i a) + getD l i 0 ≡ totalWork l + a
-unfolding totalWork
-total-set [] i a l = absurd (omega arith)
-total-set (x ∷ xs) zero a l = omega arith
-total-set (x ∷ xs) (suc i) a l = omega (arith, total-set xs i a (omega arith))

@@ -1,9 +1,10 @@
--- What is read from a table after a store. Assumes nothing.
-use mathlib.Core.Path.{_≡_, sym, ap, _∙_, subst}
-use mathlib.Core.List.{List}
-use Prim.Native.Nat.{ℕ, _<_}
+-- What is read from a table after a store, and from a row of noughts. Assumes nothing.
+use mathlib.Core.Path.{_≡_, refl, sym, ap, _∙_, subst}
+use mathlib.Core.List.{List, _∷_}
+use Prim.Native.Nat.{ℕ, zero, suc, _≤_, _<_}
+use native.Mathlib.Omega.{arith}
 use native.Mathlib.Decide.{ℕ-discrete}
-use lib.ListN.{length, getD, set}
+use lib.ListN.{length, getD, set, take, replicate}
 use lib.Seq.{getD-set-same, getD-set-other}
 
 -- by whether the place is the one stored at
@@ -20,3 +21,17 @@ pub read-sets : (P : ℕ → ℕ → Type 0) (k l : List ℕ) (i a b x : ℕ) �
 read-sets P k l i a b x hk hl here there = read-set (λ y. P y (getD (set l i b) x 0)) k i a x hk
     (λ e. read-set (λ y. P a y) l i b x hl here (λ n. absurd (n e)))
     (λ n. read-set (λ y. P (getD k x 0) y) l i b x hl (λ e. absurd (n e)) there)
+
+-- ---- rows of noughts
+
+-- a row of noughts
+pub read-noughts : (n i : ℕ) → _≡_ {A = ℕ} (getD (replicate n 0) i 0) 0
+read-noughts zero i = refl
+read-noughts (suc n) zero = refl
+read-noughts (suc n) (suc i) = read-noughts n i
+
+-- the front of a row of noughts
+pub take-noughts : (n m : ℕ) → n ≤ m → _≡_ {A = List ℕ} (take n (replicate m 0)) (replicate n 0)
+take-noughts zero m l = refl
+take-noughts (suc n) zero l = absurd (omega arith)
+take-noughts (suc n) (suc m) l = ap (λ (row : List ℕ). 0 ∷ row) (take-noughts n m (omega arith))
