@@ -90,6 +90,10 @@ pub stop : {rows rest : List Row} {row : Row} → Passed rows (row ∷ rest) →
 unfolding RefusedBy
 stop p h = p .refuses _ (inl (record { holds = h; number-is = refl }))
 
+-- the same of a refusal that was made with its number
+pub stop-with : {rows rest : List Row} {row : Row} {a : Refusal} → Passed rows (row ∷ rest) → row .holds → a ≡ refusalOf (row .number) → RefusedBy rows a
+stop-with p h e = rw e (stop p h)
+
 -- there is none left
 pub done : {rows : List Row} → Passed rows [] → Accepted rows
 unfolding Accepted
