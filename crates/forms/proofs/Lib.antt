@@ -1,1 +1,2 @@
-pub mod Entered
+pub mod TwoRows
+pub mod Tables

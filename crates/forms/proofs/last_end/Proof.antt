@@ -1,13 +1,36 @@
--- `last_end` meets its contract. Assumes nothing.
-use mathlib.Core.Path.{refl}
-use mathlib.Core.Logic.{inl, inr}
-use Prim.Native.Nat.{_-_}
+-- `last_end`: the largest end of the subtasks that both rows have. Assumes nothing.
+use mathlib.Core.Path.{_≡_, refl}
+use mathlib.Core.List.{List}
+use Prim.Native.Nat.{ℕ, suc, _+_, _-_, _≤_, _<_, min, max}
 use native.Mathlib.Omega.{arith}
-use lib.ListN.{length}
+use lib.ListN.{length, getD}
 use borrow.Author.Needs.{needs}
-use Rattle.entries.proofs.Entered.{EndSoFar, end-none, end-more, end-found}
-use Rattle.entries.proofs.last_end.Statement.{statement}
-use Rattle.entries.proofs.last_end.Tie as tie
+use Rattle.inputs.specs.Lent.{IsTimeOf}
+use Rattle.forms.specs.Forms.{itemOf, finishOf, lastEnd}
+use Rattle.forms.proofs.last_end.Statement.{statement}
+use Rattle.forms.proofs.last_end.Tie as tie
+
+-- the largest end of the first i subtasks
+record EndSoFar (times starts : List ℕ) (end i : ℕ) : Type 0 where
+  inTimes : i ≤ length times
+  inStarts : i ≤ length starts
+  largest : end ≡ lastEnd times starts i
+
+module _ {times starts : List ℕ} {end i : ℕ} (far : EndSoFar times starts end i) where
+  more : {time e f : ℕ} → i < length times → i < length starts → IsTimeOf times (i + 1) time → e ≡ getD starts i 0 + time → f ≡ max end e → EndSoFar times starts f (i + 1)
+  unfolding lastEnd finishOf itemOf
+  more l m t p q =
+      let k : i + 1 ≡ suc i = omega arith in
+      let x : suc i - 1 ≡ i = omega arith in record {
+        inTimes = omega arith;
+        inStarts = omega arith;
+        largest = rw k (rw x (omega (arith, far .largest, p, q, rw k at (t .is (record { low = omega arith; high = omega arith })))));
+      }
+
+  all : min (length times) (length starts) ≤ i → end ≡ lastEnd times starts (min (length times) (length starts))
+  all l =
+      let e : i ≡ min (length times) (length starts) = omega (arith, far .inTimes, far .inStarts) in
+      rw e at (far .largest)
 
 abbrev Inv-loop : tie.InvT-loop
 Inv-loop times starts end₀ i₀ end i = EndSoFar times starts end i
@@ -16,25 +39,26 @@ abbrev μ-loop : tie.MeasureT-loop
 μ-loop times starts end₀ i₀ end i = length times - i
 
 loop-holds : tie.Need-loop-holds Inv-loop μ-loop
-loop-holds c = end-none _ _
+unfolding lastEnd
+loop-holds c = record { inTimes = omega arith; inStarts = omega arith; largest = refl }
 
 returns : tie.Need-returns Inv-loop μ-loop
-returns c = end-found _ _ _ _ (c .before .before .loop .inv) (inr (c .if1 .taken))
+returns c = all (c .before .before .loop .inv) (omega (arith, c .if1 .taken))
 
-mul-longer : tie.Need-mul-longer Inv-loop μ-loop
-mul-longer c = search needs
+add-end-of : tie.Need-add-end-of Inv-loop μ-loop
+add-end-of c = search needs
 
-shared-slice-read-longer : tie.Need-shared-slice-read-longer Inv-loop μ-loop
-shared-slice-read-longer c = search needs
+time-of-requires : tie.Need-time-of-requires Inv-loop μ-loop
+time-of-requires c κs = search needs
 
-mul-longer-2 : tie.Need-mul-longer-2 Inv-loop μ-loop
-mul-longer-2 c = search needs
+mul-end-of : tie.Need-mul-end-of Inv-loop μ-loop
+mul-end-of c = search needs
 
-shared-slice-read-longer-2 : tie.Need-shared-slice-read-longer-2 Inv-loop μ-loop
-shared-slice-read-longer-2 c = search needs
+shared-slice-read-end-of : tie.Need-shared-slice-read-end-of Inv-loop μ-loop
+shared-slice-read-end-of c = search needs
 
-longer-requires : tie.Need-longer-requires Inv-loop μ-loop
-longer-requires c κs = search needs
+end-of-requires : tie.Need-end-of-requires Inv-loop μ-loop
+end-of-requires c κs = search needs
 
 later-requires : tie.Need-later-requires Inv-loop μ-loop
 later-requires c κs = search needs
@@ -47,11 +71,11 @@ loop-less c = search needs
 
 loop-again : tie.Need-loop-again Inv-loop μ-loop
 loop-again c =
-    let turn = c .before .before .before .before .before .before in
-    end-more _ _ _ _ _ _ _ (turn .loop .inv) (omega arith) (omega arith) (c .before .longer .ensures) (c .later .ensures) refl
+    more (c .before .before .before .before .before .before .loop .inv) (omega arith) (omega arith) (c .before .before .before .time-of .ensures)
+    (c .before .end-of .ensures) (c .later .ensures)
 
 returns-2 : tie.Need-returns-2 Inv-loop μ-loop
-returns-2 c = end-found _ _ _ _ (c .before .loop .inv) (inl (omega arith))
+returns-2 c = all (c .before .loop .inv) (omega (arith, c .loop-test .left))
 
 pub last-end-spec : {M : Type 1} → statement M
 last-end-spec =
@@ -61,11 +85,11 @@ last-end-spec =
     μ-loop
     loop-holds
     returns
-    mul-longer
-    shared-slice-read-longer
-    mul-longer-2
-    shared-slice-read-longer-2
-    longer-requires
+    add-end-of
+    time-of-requires
+    mul-end-of
+    shared-slice-read-end-of
+    end-of-requires
     later-requires
     add-i
     loop-less
