@@ -10,7 +10,7 @@ use lib.Dec.{leb}
 use lib.ListN.{length, drop, getD, drop-of-length-le}
 use lib.Seq.{drop-cons, drop-drop}
 use borrow.Author.Tests.{ne-eqb, le-leb, lt-leb}
-use Rattle.terms.specs.Texts.{allPass, isDigit, fields, isField, value, proper, numbers, endsHere, blanks, digits}
+use Rattle.terms.specs.Texts.{allPass, isDigit, fields, isField, value, proper, numbers, endsHere, blanks, digits, nextField}
 use Rattle.text.specs.declared.Next.{Next}
 use Rattle.text.specs.declared.Next.the-variants as next
 use Rattle.text.specs.Steps.{lineSize, noNumber, nextAt, nextNumber}
@@ -48,6 +48,14 @@ module _ (text : List ℕ) (at start : ℕ) (p : start ≡ at + blanks (drop at 
   to-start : drop (blanks (drop at text)) (drop at text) ≡ drop start text
   to-start = rw (drop-drop (blanks (drop at text)) at text, ← p)
 
+  -- no space and no tab stands there
+  start-blanks : blanks (drop start text) ≡ 0
+  start-blanks = sym (ap blanks to-start) ∙ blanks-none (drop at text)
+
+  -- so the next field from there on begins there
+  pub field-start : (d : List ℕ) → d ≡ nextField (drop start text) → d ≡ digits (drop start text)
+  field-start d q = q ∙ ap (λ (k : ℕ). digits (drop k (drop start text))) start-blanks
+
   next-start : nextNumber at (drop at text) ≡ nextAt start (drop start text)
   unfolding nextNumber
   next-start = rw (to-start, ← p)
@@ -64,10 +72,6 @@ module _ (text : List ℕ) (at start : ℕ) (p : start ≡ at + blanks (drop at 
       next-is v m l = rw (next-start, ← q, ne-eqb (length d) 0 z, le-leb (length d) 8 l, m)
 
   module _ (h : at ≤ length text) where
-    -- no space and no tab stands there
-    start-blanks : blanks (drop start text) ≡ 0
-    start-blanks = sym (ap blanks to-start) ∙ blanks-none (drop at text)
-
     fields-start : fields (line (drop at text)) ≡ fields (line (drop start text))
     fields-start = fields-blanks (drop at text) ∙ ap (λ (l : List ℕ). fields (line l)) to-start
 

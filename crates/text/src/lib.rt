@@ -1,5 +1,5 @@
 // The fields, numbers and lines of a text, from a place in it on. A place past the end is as good as the end.
-use lent::byte;
+use inputs::usize_from_u8;
 ghost use mathlib.Core.Path.{_≡_};
 ghost use mathlib.Core.Bool.{true};
 ghost use Prim.Native.Nat.{_<_, _≤_, _+_};
@@ -115,10 +115,10 @@ fn value_of(field: &[u8]) -> usize
     requires { ⌜ (1 ≤ length (now field)) × (length (now field) ≤ 8) × (allPass isDigit (now field) ≡ true) ⌝ }
     ensures { λ r. ⌜ r ≡ value (now (field .entry)) ⌝ }
 {
-    let mut number = byte(field[0] - 48);
+    let mut number = usize_from_u8(field[0] - 48);
     let mut i: usize = 1;
     while i < field.len() {
-        number = number * 10 + byte(field[i] - 48);
+        number = number * 10 + usize_from_u8(field[i] - 48);
         i += 1;
     }
     number
@@ -146,7 +146,7 @@ pub fn next_number(text: &[u8], at: usize) -> Next
     ensures { λ r. ⌜ r ≡ nextNumber at (drop at (now (text .entry))) ⌝ }
 {
     let start = blanks_end(text, at);
-    let field = field_from(text, start);
+    let field = next_field(text, start);
     let size = field.len();
     if size == 0 {
         return no_number(text, start);

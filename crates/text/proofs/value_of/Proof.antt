@@ -13,24 +13,24 @@ Inv-loop field number₀ i₀ number i = Made field number i
 abbrev μ-loop : tie.MeasureT-loop
 μ-loop field number₀ i₀ number i = length field - i
 
-shared-slice-read-byte : tie.Need-shared-slice-read-byte Inv-loop μ-loop
-shared-slice-read-byte c = search needs
+shared-slice-read-usize-from-u8 : tie.Need-shared-slice-read-usize-from-u8 Inv-loop μ-loop
+shared-slice-read-usize-from-u8 c = search needs
 
-sub-byte : tie.Need-sub-byte Inv-loop μ-loop
-sub-byte c =
+sub-usize-from-u8 : tie.Need-sub-usize-from-u8 Inv-loop μ-loop
+sub-usize-from-u8 c =
     let c-args = c .before .before .args in
     let c-pre = c .before .before .pre in
     digit-at (c-args .field .now) 0 (c-pre .2) (omega arith) .0
 
-byte-requires : tie.Need-byte-requires Inv-loop μ-loop
-byte-requires c κs = search needs
+usize-from-u8-requires : tie.Need-usize-from-u8-requires Inv-loop μ-loop
+usize-from-u8-requires c κs = search needs
 
 loop-holds : tie.Need-loop-holds Inv-loop μ-loop
 loop-holds c =
     let c-args = c .before .before .before .args in
     let c-pre = c .before .before .before .pre in
-    let c-byte = c .byte in
-    made-first (c-args .field .now) (c-pre .2) (c-byte .result) (omega arith) (c-byte .ensures .0)
+    let c-usize-from-u8 = c .usize-from-u8 in
+    made-first (c-args .field .now) (c-pre .2) (c-usize-from-u8 .result) (omega arith) (c-usize-from-u8 .ensures .0)
 
 mul-number : tie.Need-mul-number Inv-loop μ-loop
 mul-number c =
@@ -38,18 +38,18 @@ mul-number c =
     let c-loop = c .before .loop in
     omega (arith, made-few (c-args .field .now) (c-loop .number) (c-loop .i) (c-loop .inv) (omega arith))
 
-shared-slice-read-byte-2 : tie.Need-shared-slice-read-byte-2 Inv-loop μ-loop
-shared-slice-read-byte-2 c = search needs
+shared-slice-read-usize-from-u8-2 : tie.Need-shared-slice-read-usize-from-u8-2 Inv-loop μ-loop
+shared-slice-read-usize-from-u8-2 c = search needs
 
-sub-byte-2 : tie.Need-sub-byte-2 Inv-loop μ-loop
-sub-byte-2 c =
+sub-usize-from-u8-2 : tie.Need-sub-usize-from-u8-2 Inv-loop μ-loop
+sub-usize-from-u8-2 c =
     let c-args = c .before .before .before .before .before .before .args in
     let c-loop = c .before .before .loop in
     let c-pre = c .before .before .before .before .before .before .pre in
     digit-at (c-args .field .now) (c-loop .i) (c-pre .2) (omega arith) .0
 
-byte-requires-2 : tie.Need-byte-requires-2 Inv-loop μ-loop
-byte-requires-2 c κs = search needs
+usize-from-u8-requires-2 : tie.Need-usize-from-u8-requires-2 Inv-loop μ-loop
+usize-from-u8-requires-2 c κs = search needs
 
 add-number : tie.Need-add-number Inv-loop μ-loop
 add-number c =
@@ -68,7 +68,7 @@ loop-again : tie.Need-loop-again Inv-loop μ-loop
 loop-again c =
     let c-args = c .before .before .before .before .before .before .before .args in
     let c-pre = c .before .before .before .before .before .before .before .pre in
-    let c-byte2 = c .byte2 in
+    let c-byte2 = c .usize-from-u82 in
     let c-loop = c .before .before .before .loop in
     made-more (c-args .field .now) (c-pre .2) (c-byte2 .result) (c-loop .number) (c-loop .i) (c-loop .inv) (omega arith) (c-byte2 .ensures .0)
 
@@ -84,14 +84,14 @@ value-of-spec =
     (tie.spec
     Inv-loop
     μ-loop
-    shared-slice-read-byte
-    sub-byte
-    byte-requires
+    shared-slice-read-usize-from-u8
+    sub-usize-from-u8
+    usize-from-u8-requires
     loop-holds
     mul-number
-    shared-slice-read-byte-2
-    sub-byte-2
-    byte-requires-2
+    shared-slice-read-usize-from-u8-2
+    sub-usize-from-u8-2
+    usize-from-u8-requires-2
     add-number
     add-i
     loop-less
