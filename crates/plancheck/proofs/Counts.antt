@@ -14,9 +14,10 @@ use Rattle.terms.specs.Sums.{sum}
 use Rattle.theory.specs.Counting.{bit}
 use Rattle.theory.proofs.Sums.{sum-eq, bit-yes, bit-no, bit-mono}
 use Rattle.theory.proofs.Running.{decRuns, runs, running}
-use Rattle.entries.specs.Entries.{itemOf, finishOf}
-use Rattle.plancheck.specs.Scans.{FirstSubtask, runsIn, runningAmong, Idles, Earliest}
-use Rattle.plancheck.proofs.Firsts.{first-is, first-no}
+use Rattle.forms.specs.Forms.{never, itemOf, finishOf}
+use Rattle.theory.specs.First.{FirstSubtask}
+use Rattle.theory.proofs.Firsts.{first-is, first-no}
+use Rattle.plancheck.specs.Scans.{runsIn, runningAmong, Idles, Earliest}
 
 module _ (s e t : ℕ) where
   pub runs-now : s ≤ t → t < e → (1 ≡ runsIn s e t) × (1 ≤ 1)
@@ -31,22 +32,22 @@ module _ (s e t : ℕ) where
   unfolding runsIn
   runs-no-more a = (sym (bit-no (Dec·and (decLe s t) (decLt t e)) (λ h. omega (arith, h .1))), omega arith)
 
-pub among-none : (times S : List ℕ) (t : ℕ) → runningAmong times S t 0 ≡ 0
+pub among-none : (times starts : List ℕ) (t : ℕ) → runningAmong times starts t 0 ≡ 0
 unfolding runningAmong sum
-among-none times S t = refl
+among-none times starts t = refl
 
-pub among-more : (times S : List ℕ) (t j s e b : ℕ) → s ≡ itemOf S (j + 1) → e ≡ finishOf times S (j + 1) → b ≡ runsIn s e t → runningAmong times S t (j + 1) ≡ runningAmong times S t j + b
+pub among-more : (times starts : List ℕ) (t j s e b : ℕ) → s ≡ itemOf starts (j + 1) → e ≡ finishOf times starts (j + 1) → b ≡ runsIn s e t → runningAmong times starts t (j + 1) ≡ runningAmong times starts t j + b
 unfolding runningAmong sum
-among-more times S t j s e b p q r = rw (r, p, q, add-one j) refl
+among-more times starts t j s e b p q r = rw (r, p, q, add-one j) refl
 
 -- where every subtask is placed, those are the ones that run
-pub among-running : (times S : List ℕ) (plan : List Entry) (t : ℕ) → ((j : ℕ) → IsSubtask times j → Placed plan j)
-    → ((j : ℕ) → startOf plan j ≡ itemOf S j) → ((j : ℕ) → endOf times plan j ≡ finishOf times S j) → runningAmong times S t (length times) ≡ running times plan t
+pub among-running : (times starts : List ℕ) (plan : List Entry) (t : ℕ) → ((j : ℕ) → IsSubtask times j → Placed plan j)
+    → ((j : ℕ) → startOf plan j ≡ itemOf starts j) → ((j : ℕ) → endOf times plan j ≡ finishOf times starts j) → runningAmong times starts t (length times) ≡ running times plan t
 unfolding runningAmong running runsIn runs
-among-running times S plan t placed start end = sum-eq (length times) _ _ (λ i l. one (suc i) (record { low = omega arith; high = l }))
+among-running times starts plan t placed start end = sum-eq (length times) _ _ (λ i l. one (suc i) (record { low = omega arith; high = l }))
   where
-    one : (j : ℕ) → IsSubtask times j → runsIn (itemOf S j) (finishOf times S j) t ≡ runs times plan j t
-    one j s = both (Dec·and (decLe (itemOf S j) t) (decLt t (finishOf times S j))) (decRuns times plan j t)
+    one : (j : ℕ) → IsSubtask times j → runsIn (itemOf starts j) (finishOf times starts j) t ≡ runs times plan j t
+    one j s = both (Dec·and (decLe (itemOf starts j) t) (decLt t (finishOf times starts j))) (decRuns times plan j t)
         (λ x. record { placed = placed j s; begun = omega (arith, x .0, start j); unended = omega (arith, x .1, end j) })
         (λ r. (omega (arith, r .begun, start j), omega (arith, r .unended, end j)))
       where
@@ -55,26 +56,26 @@ among-running times S plan t placed start end = sum-eq (length times) _ _ (λ i 
 
 -- ---- the earliest
 
-module _ (times S ready : List ℕ) (M : ℕ) where
-  module _ {r : ℕ} (f : FirstSubtask (length times) (Idles times S ready M 0) r) where
-    pub earliest-first : {k : ℕ} → r ≢ 0 → Earliest times S ready M k 0
-    earliest-first h = let x = first-is (Idles times S ready M 0) f h in record {
+module _ (times starts ready : List ℕ) (M : ℕ) where
+  module _ {r : ℕ} (f : FirstSubtask (length times) (Idles times starts ready M 0) r) where
+    pub earliest-first : {k : ℕ} → r ≢ 0 → Earliest times starts ready M k 0
+    earliest-first h = let x = first-is (Idles times starts ready M 0) f h in record {
       fits = omega arith;
       holds = λ _. (r, x .0, x .1);
       first = λ _ _ _. omega arith;
       later = λ _ _ _ _ _. omega arith;
     }
 
-    pub earliest-none : r ≡ 0 → Earliest times S ready M 0 4294967295
+    pub earliest-none : r ≡ 0 → Earliest times starts ready M 0 never
     earliest-none z = record {
       fits = omega arith;
       holds = λ l. absurd (omega (arith, l));
-      first = λ j s d. absurd (first-no (Idles times S ready M 0) f z j s d);
+      first = λ j s d. absurd (first-no (Idles times starts ready M 0) f z j s d);
       later = λ i a. absurd (omega (arith, a .low, a .high));
     }
 
-  module _ {i found e : ℕ} (h : Earliest times S ready M i found) (q : e ≡ finishOf times S (i + 1)) where
-    pub earliest-stays : found ≤ e → Earliest times S ready M (i + 1) found
+  module _ {i found e : ℕ} (h : Earliest times starts ready M i found) (q : e ≡ finishOf times starts (i + 1)) where
+    pub earliest-stays : found ≤ e → Earliest times starts ready M (i + 1) found
     earliest-stays l = record {
       fits = h .fits;
       holds = h .holds;
@@ -82,19 +83,19 @@ module _ (times S ready : List ℕ) (M : ℕ) where
       later = λ k a j s d. by-cases (ℕ-discrete k (i + 1)) (λ c. rw c (omega (arith, q, l))) (λ c. h .later k (record { low = a .low; high = omega (arith, a .high, c) }) j s d);
     }
 
-    module _ {r : ℕ} (f : FirstSubtask (length times) (Idles times S ready M e) r) where
-      pub earliest-moves : r ≢ 0 → e < found → Earliest times S ready M (i + 1) e
-      earliest-moves n l = let x = first-is (Idles times S ready M e) f n in record {
+    module _ {r : ℕ} (f : FirstSubtask (length times) (Idles times starts ready M e) r) where
+      pub earliest-moves : r ≢ 0 → e < found → Earliest times starts ready M (i + 1) e
+      earliest-moves n l = let x = first-is (Idles times starts ready M e) f n in record {
         fits = omega (arith, h .fits, l);
         holds = λ _. (r, x .0, x .1);
         first = λ j s d. omega (arith, h .first j s d, l);
         later = λ k a j s d. by-cases (ℕ-discrete k (i + 1)) (λ c. rw c (omega (arith, q))) (λ c. omega (arith, h .later k (record { low = a .low; high = omega (arith, a .high, c) }) j s d, l));
       }
 
-      pub earliest-skips : r ≡ 0 → Earliest times S ready M (i + 1) found
+      pub earliest-skips : r ≡ 0 → Earliest times starts ready M (i + 1) found
       earliest-skips z = record {
         fits = h .fits;
         holds = h .holds;
         first = h .first;
-        later = λ k a j s d. by-cases (ℕ-discrete k (i + 1)) (λ c. absurd (first-no (Idles times S ready M e) f z j s (rw (ap (finishOf times S) c ∙ sym q) at d))) (λ c. h .later k (record { low = a .low; high = omega (arith, a .high, c) }) j s d);
+        later = λ k a j s d. by-cases (ℕ-discrete k (i + 1)) (λ c. absurd (first-no (Idles times starts ready M e) f z j s (rw (ap (finishOf times starts) c ∙ sym q) at d))) (λ c. h .later k (record { low = a .low; high = omega (arith, a .high, c) }) j s d);
       }

@@ -1,7 +1,6 @@
-pub mod Firsts
-pub mod LatestOnes
+pub mod Clashes
+pub mod LatestEnds
 pub mod Counts
-pub mod Tables
-pub mod Asked
+pub mod Tests
 pub mod Replied
 pub mod Swept

@@ -11,12 +11,13 @@ use borrow.Author.Count.{below-more}
 use Rattle.terms.specs.Graphs.{Among, IsSubtask}
 use Rattle.terms.specs.Plans.{FreeAt}
 use Rattle.theory.proofs.Pigeonhole.{onto}
-use Rattle.entries.specs.Entries.{entries, itemOf, finishOf}
-use Rattle.entries.proofs.Entered.{entries-processor, entries-start, entries-end}
-use Rattle.graph.proofs.Stores.{read-set}
+use Rattle.forms.specs.Forms.{entries, itemOf, finishOf}
+use Rattle.forms.proofs.TwoRows.{entries-processor, entries-start, entries-end}
+use Rattle.theory.proofs.Stores.{read-set}
 use Rattle.plancheck.specs.Known.{Timed}
+use Rattle.theory.specs.Flags.{Shows}
 use Rattle.plancheck.specs.Scans.{Clash}
-use Rattle.plancheck.specs.Sweeps.{Shows, Laid, SlackAt, Calm, Low}
+use Rattle.plancheck.specs.Sweeps.{Sweepable, SlackAt, ApartAndBusy, Low}
 
 -- the subtask at place x of a row of keys
 unfoldable pub nth : List ℕ → ℕ → ℕ
@@ -28,20 +29,20 @@ all-nought zero i = refl
 all-nought (suc n) zero = refl
 all-nought (suc n) (suc i) = all-nought n i
 
-module _ (times : List ℕ) (M : ℕ) (P S ready row : List ℕ) where
+module _ (times : List ℕ) (M : ℕ) (procs starts ready row : List ℕ) where
   -- the first k subtasks of the row are swept; the last of them starts at `before`
   pub record Swept (until : List ℕ) (before slack k : ℕ) : Type 0 where
     pub upto : k ≤ length times
     pub long : length until ≡ 17
     pub each : (x : ℕ) → x < k → IsSubtask times (nth row x)
-    pub begun : (x : ℕ) → x < k → itemOf S (nth row x) ≤ before
+    pub begun : (x : ℕ) → x < k → itemOf starts (nth row x) ≤ before
     -- on each processor: one ends where the row of ends says, and none later
-    pub last : (p : ℕ) → 0 < getD until p 0 → (x : ℕ) × (x < k) × (itemOf P (nth row x) ≡ p) × (finishOf times S (nth row x) ≡ getD until p 0)
-    pub ended : (x : ℕ) → x < k → finishOf times S (nth row x) ≤ getD until (itemOf P (nth row x)) 0
-    pub apart : (x y : ℕ) → x < y → y < k → itemOf P (nth row x) ≡ itemOf P (nth row y) → finishOf times S (nth row x) ≤ itemOf S (nth row y)
+    pub last : (p : ℕ) → 0 < getD until p 0 → (x : ℕ) × (x < k) × (itemOf procs (nth row x) ≡ p) × (finishOf times starts (nth row x) ≡ getD until p 0)
+    pub ended : (x : ℕ) → x < k → finishOf times starts (nth row x) ≤ getD until (itemOf procs (nth row x)) 0
+    pub apart : (x y : ℕ) → x < y → y < k → itemOf procs (nth row x) ≡ itemOf procs (nth row y) → finishOf times starts (nth row x) ≤ itemOf starts (nth row y)
     -- every slack instant before the last start lies before the end of the latest slack; no swept subtask was ready at one
-    pub slack-ends : (t p : ℕ) → t < before → Among 1 M p → FreeAt times (entries P S) p t → t < slack
-    pub busy : (x : ℕ) → x < k → (t p : ℕ) → t < itemOf S (nth row x) → Among 1 M p → FreeAt times (entries P S) p t → t < getD ready (nth row x) 0
+    pub slack-ends : (t p : ℕ) → t < before → Among 1 M p → FreeAt times (entries procs starts) p t → t < slack
+    pub busy : (x : ℕ) → x < k → (t p : ℕ) → t < itemOf starts (nth row x) → Among 1 M p → FreeAt times (entries procs starts) p t → t < getD ready (nth row x) 0
 
   pub swept-none : Swept (replicate 17 0) 0 0 0
   swept-none = record {
@@ -59,21 +60,21 @@ module _ (times : List ℕ) (M : ℕ) (P S ready row : List ℕ) where
       nought : (p : ℕ) → ¬ (0 < getD (replicate 17 0) p 0)
       nought p l = omega (arith, l, all-nought 17 p)
 
-module _ {times : List ℕ} {M : ℕ} {P S ready : List ℕ} (laid : Laid times M P S ready) where
-  same : length P ≡ length S
-  same = laid .long-P ∙ sym (laid .timed .long)
+module _ {times : List ℕ} {M : ℕ} {procs starts ready : List ℕ} (laid : Sweepable times M procs starts ready) where
+  same : length procs ≡ length starts
+  same = laid .long-procs ∙ sym (laid .timed .long)
 
   -- a processor is not free while a subtask runs on it
-  taken : (j t p : ℕ) → IsSubtask times j → itemOf P j ≡ p → itemOf S j ≤ t → t < finishOf times S j → ¬ FreeAt times (entries P S) p t
-  taken j t p s e b u free = free j s (entries-processor times P S same j ∙ e) (record {
-    placed = omega (arith, laid .placed j s .low, entries-processor times P S same j);
-    begun = omega (arith, b, entries-start times P S same j);
-    unended = omega (arith, u, entries-end times P S same j);
+  taken : (j t p : ℕ) → IsSubtask times j → itemOf procs j ≡ p → itemOf starts j ≤ t → t < finishOf times starts j → ¬ FreeAt times (entries procs starts) p t
+  taken j t p s e b u free = free j s (entries-processor times procs starts same j ∙ e) (record {
+    placed = omega (arith, laid .placed j s .low, entries-processor times procs starts same j);
+    begun = omega (arith, b, entries-start times procs starts same j);
+    unended = omega (arith, u, entries-end times procs starts same j);
   })
 
-  module _ {row until : List ℕ} {before slack k : ℕ} (h : Swept times M P S ready row until before slack k) (l : k < length times)
-      {j s p slack' e : ℕ} (is : j ≡ nth row k) (high : j ≤ length times) (start : s ≡ itemOf S j) (rises : before ≤ s) (on : p ≡ itemOf P j)
-      (clear : getD until p 0 ≤ s) (slacks : SlackAt until M s slack slack') (due : slack' ≤ getD ready j 0) (end : e ≡ finishOf times S j) where
+  module _ {row until : List ℕ} {before slack k : ℕ} (h : Swept times M procs starts ready row until before slack k) (l : k < length times)
+      {j s p slack' e : ℕ} (is : j ≡ nth row k) (high : j ≤ length times) (start : s ≡ itemOf starts j) (rises : before ≤ s) (on : p ≡ itemOf procs j)
+      (clear : getD until p 0 ≤ s) (slacks : SlackAt until M s slack slack') (due : slack' ≤ getD ready j 0) (end : e ≡ finishOf times starts j) where
     subtask : IsSubtask times j
     unfolding nth
     subtask = record { low = omega (arith, is); high = high }
@@ -86,7 +87,7 @@ module _ {times : List ℕ} {M : ℕ} {P S ready : List ℕ} (laid : Laid times 
     later = omega (arith, end, start)
 
     -- the slack before s
-    slack-to : (t q : ℕ) → t < s → Among 1 M q → FreeAt times (entries P S) q t → t < slack'
+    slack-to : (t q : ℕ) → t < s → Among 1 M q → FreeAt times (entries procs starts) q t → t < slack'
     slack-to t q b a free = ⊎-elim (λ r. omega (arith, r, b)) (λ r. by-cases (decLt t before) (λ o. omega (arith, r .0, h .slack-ends t q o a free)) (λ o. absurd (ran o (r .1 q a)))) slacks
       where
         ran : ¬ (t < before) → ¬ (s ≤ getD until q 0)
@@ -94,35 +95,35 @@ module _ {times : List ℕ} {M : ℕ} {P S ready : List ℕ} (laid : Laid times 
             let w = h .last q (omega (arith, u, b)) in
             taken (nth row (w .0)) t q (h .each (w .0) (w .1)) (w .2) (omega (arith, h .begun (w .0) (w .1), o)) (omega (arith, w .3, u, b)) free
 
-    pub swept-more : Swept times M P S ready row (set until p e) s slack' (k + 1)
+    pub swept-more : Swept times M procs starts ready row (set until p e) s slack' (k + 1)
     swept-more = record {
       upto = omega (arith, l);
       long = length-set until p e ∙ h .long;
       each = below-more (λ x. IsSubtask times (nth row x)) k (h .each) (rw (← is) subtask);
-      begun = below-more (λ x. itemOf S (nth row x) ≤ s) k (λ x b. omega (arith, h .begun x b, rises)) (rw (← is) (omega (arith, start)));
-      last = λ q. read-set (λ v. 0 < v → (x : ℕ) × (x < k + 1) × (itemOf P (nth row x) ≡ q) × (finishOf times S (nth row x) ≡ v)) until p e q room
+      begun = below-more (λ x. itemOf starts (nth row x) ≤ s) k (λ x b. omega (arith, h .begun x b, rises)) (rw (← is) (omega (arith, start)));
+      last = λ q. read-set (λ v. 0 < v → (x : ℕ) × (x < k + 1) × (itemOf procs (nth row x) ≡ q) × (finishOf times starts (nth row x) ≡ v)) until p e q room
           (λ c _. (k, omega arith, rw (← is) (sym on ∙ sym c), rw (← is) (sym end)))
           (λ c v. let w = h .last q v in (w .0, omega (arith, w .1), w .2, w .3));
-      ended = below-more (λ x. finishOf times S (nth row x) ≤ getD (set until p e) (itemOf P (nth row x)) 0) k
-          (λ x b. read-set (λ v. finishOf times S (nth row x) ≤ v) until p e (itemOf P (nth row x)) room (λ c. omega (arith, on-same x b c, clear, later)) (λ c. h .ended x b))
-          (rw (← is) (read-set (λ v. finishOf times S j ≤ v) until p e (itemOf P j) room (λ c. omega (arith, end)) (λ c. absurd (c (sym on)))));
+      ended = below-more (λ x. finishOf times starts (nth row x) ≤ getD (set until p e) (itemOf procs (nth row x)) 0) k
+          (λ x b. read-set (λ v. finishOf times starts (nth row x) ≤ v) until p e (itemOf procs (nth row x)) room (λ c. omega (arith, on-same x b c, clear, later)) (λ c. h .ended x b))
+          (rw (← is) (read-set (λ v. finishOf times starts j ≤ v) until p e (itemOf procs j) room (λ c. omega (arith, end)) (λ c. absurd (c (sym on)))));
       apart = λ x y b c q. by-cases (ℕ-discrete y k) (λ z. new-apart x y b z q) (λ z. h .apart x y b (omega (arith, c, z)) q);
       slack-ends = slack-to;
-      busy = below-more (λ x. (t q : ℕ) → t < itemOf S (nth row x) → Among 1 M q → FreeAt times (entries P S) q t → t < getD ready (nth row x) 0) k (h .busy)
+      busy = below-more (λ x. (t q : ℕ) → t < itemOf starts (nth row x) → Among 1 M q → FreeAt times (entries procs starts) q t → t < getD ready (nth row x) 0) k (h .busy)
           (rw (← is) (λ t q b a free. omega (arith, slack-to t q (omega (arith, b, start)) a free, due)));
     }
       where
-        on-same : (x : ℕ) → x < k → itemOf P (nth row x) ≡ p → finishOf times S (nth row x) ≤ getD until p 0
-        on-same x b c = subst (λ (q : ℕ). finishOf times S (nth row x) ≤ getD until q 0) c (h .ended x b)
+        on-same : (x : ℕ) → x < k → itemOf procs (nth row x) ≡ p → finishOf times starts (nth row x) ≤ getD until p 0
+        on-same x b c = subst (λ (q : ℕ). finishOf times starts (nth row x) ≤ getD until q 0) c (h .ended x b)
 
-        new-apart : (x y : ℕ) → x < y → y ≡ k → itemOf P (nth row x) ≡ itemOf P (nth row y) → finishOf times S (nth row x) ≤ itemOf S (nth row y)
+        new-apart : (x y : ℕ) → x < y → y ≡ k → itemOf procs (nth row x) ≡ itemOf procs (nth row y) → finishOf times starts (nth row x) ≤ itemOf starts (nth row y)
         new-apart x y b z q =
             let w : nth row y ≡ j = ap (nth row) z ∙ sym is in
-            let v : itemOf P (nth row x) ≡ p = q ∙ ap (itemOf P) w ∙ sym on in
+            let v : itemOf procs (nth row x) ≡ p = q ∙ ap (itemOf procs) w ∙ sym on in
             rw w (omega (arith, on-same x (omega (arith, b, z)) v, clear, start))
 
   -- all are swept
-  pub swept-all : {row until : List ℕ} {before slack k : ℕ} → Swept times M P S ready row until before slack k → length times ≤ k → Calm times M P S ready
+  pub swept-all : {row until : List ℕ} {before slack k : ℕ} → Swept times M procs starts ready row until before slack k → length times ≤ k → ApartAndBusy times M procs starts ready
   unfolding finishOf
   swept-all {row} {k = k} h l = record {
     apart = λ i j s q c. distinct i j c (at i s) (at j q);
@@ -137,20 +138,20 @@ module _ {times : List ℕ} {M : ℕ} {P S ready : List ℕ} (laid : Laid times 
 
       once : (x y : ℕ) → x < y → y < length times → nth row x ≢ nth row y
       once x y b c e =
-          let w : finishOf times S (nth row x) ≤ itemOf S (nth row x) = rw (← e) at (h .apart x y b (inside c) (ap (itemOf P) e)) in
+          let w : finishOf times starts (nth row x) ≤ itemOf starts (nth row x) = rw (← e) at (h .apart x y b (inside c) (ap (itemOf procs) e)) in
           omega (arith, w, laid .positive (nth row x) (h .each x (omega (arith, b, c, l))))
 
       at : (j : ℕ) → IsSubtask times j → (x : ℕ) × (x < length times) × (nth row x ≡ j)
       at = onto (length times) (nth row) (λ x b. h .each x (inside b)) once
 
-      distinct : (i j : ℕ) → Clash times P S i j → (x : ℕ) × (x < length times) × (nth row x ≡ i) → ¬ ((y : ℕ) × (y < length times) × (nth row y ≡ j))
+      distinct : (i j : ℕ) → Clash times procs starts i j → (x : ℕ) × (x < length times) × (nth row x ≡ i) → ¬ ((y : ℕ) × (y < length times) × (nth row y ≡ j))
       distinct i j c (x, b, e) (y, d, f) = by-cases (decLt x y)
           (λ o.
-          let w : finishOf times S i ≤ itemOf S j = rw (e, f) at (h .apart x y o (inside d) (rw (e, f) (c .same))) in
+          let w : finishOf times starts i ≤ itemOf starts j = rw (e, f) at (h .apart x y o (inside d) (rw (e, f) (c .same))) in
           omega (arith, w, c .right))
           (λ o. by-cases (decLt y x)
           (λ u.
-          let w : finishOf times S j ≤ itemOf S i = rw (e, f) at (h .apart y x u (inside b) (rw (e, f) (sym (c .same)))) in
+          let w : finishOf times starts j ≤ itemOf starts i = rw (e, f) at (h .apart y x u (inside b) (rw (e, f) (sym (c .same)))) in
           omega (arith, w, c .left))
           (λ u.
           let z : x ≡ y = omega (arith, o, u) in
@@ -168,18 +169,15 @@ unfolding nth
 nth-is row x j e = e
 
 -- every processor has its place in a row of 17
-pub until-room : {times : List ℕ} {M : ℕ} {P S ready : List ℕ} {j p : ℕ} → Laid times M P S ready → IsSubtask times j → p ≡ itemOf P j → p < 17
+pub until-room : {times : List ℕ} {M : ℕ} {procs starts ready : List ℕ} {j p : ℕ} → Sweepable times M procs starts ready → IsSubtask times j → p ≡ itemOf procs j → p < 17
 until-room {j = j} laid s e = omega (arith, laid .placed j s .high, laid .processors, e)
 
-pub low-starts : {times S : List ℕ} → Timed times S → Low S
+pub low-starts : {times starts : List ℕ} → Timed times starts → Low starts
 unfolding itemOf
-low-starts {S = S} timed = record {
+low-starts {starts = starts} timed = record {
   few = omega (arith, timed .few, timed .long);
   low = λ i l.
       let e : i + 1 - 1 ≡ i = omega arith in
-      let x : getD S (i + 1 - 1) 0 ≤ 16776960 = timed .low (i + 1) (record { low = omega arith; high = omega (arith, l, timed .long) }) in
+      let x : getD starts (i + 1 - 1) 0 ≤ 16776960 = timed .low (i + 1) (record { low = omega arith; high = omega (arith, l, timed .long) }) in
       rw e at x;
 }
-
-pub shown : {P : Type 0} {b : Bool} → b ≡ true → Shows P b → P
-shown {P} e h = subst (Shows P) e h

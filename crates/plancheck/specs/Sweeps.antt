@@ -1,28 +1,22 @@
 -- What one sweep over the subtasks in the order of their starts asks, and what it shows.
 use mathlib.Core.Path.{_≡_}
 use mathlib.Core.Logic.{_⊎_}
-use mathlib.Core.Bool.{Bool, true, false}
 use mathlib.Core.List.{List}
 use Prim.Native.Nat.{ℕ, _≤_, _<_}
 use lib.ListN.{length, getD}
 use Rattle.terms.specs.Graphs.{Among, IsSubtask, timeOf}
 use Rattle.terms.specs.Plans.{FreeAt}
-use Rattle.entries.specs.Entries.{entries, itemOf}
+use Rattle.forms.specs.Forms.{entries, itemOf}
 use Rattle.plancheck.specs.Known.{Timed}
 use Rattle.plancheck.specs.Scans.{Clash}
 
--- the flag, where it is true, shows P
-abbrev pub Shows : Type 0 → Bool → Type 0
-Shows P true = P
-Shows P false = Unit {0}
-
--- every subtask takes time, on a processor of 1..M
-pub record Laid (times : List ℕ) (M : ℕ) (P S ready : List ℕ) : Type 0 where
+-- what the sweep asks: every subtask takes time, on a processor of 1..M
+pub record Sweepable (times : List ℕ) (M : ℕ) (procs starts ready : List ℕ) : Type 0 where
   pub processors : M ≤ 16
   pub positive : (j : ℕ) → IsSubtask times j → 1 ≤ timeOf times j
-  pub long-P : length P ≡ length times
-  pub placed : (j : ℕ) → IsSubtask times j → Among 1 M (itemOf P j)
-  pub timed : Timed times S
+  pub long-procs : length procs ≡ length times
+  pub placed : (j : ℕ) → IsSubtask times j → Among 1 M (itemOf procs j)
+  pub timed : Timed times starts
   pub long-ready : length ready ≡ 257
 
 -- r is s where some processor of 1..M is free before s, by the ends of what ran last on each; else it is the old slack
@@ -30,11 +24,11 @@ abbrev pub SlackAt : List ℕ → ℕ → ℕ → ℕ → ℕ → Type 0
 SlackAt until M s slack r = (r ≡ s) ⊎ ((r ≡ slack) × ((p : ℕ) → Among 1 M p → s ≤ getD until p 0))
 
 -- no two subtasks clash, and no processor is free while a subtask waits for nothing else
-pub record Calm (times : List ℕ) (M : ℕ) (P S ready : List ℕ) : Type 0 where
-  pub apart : (i j : ℕ) → IsSubtask times i → IsSubtask times j → ¬ Clash times P S i j
-  pub busy : (j t p : ℕ) → IsSubtask times j → getD ready j 0 ≤ t → t < itemOf S j → Among 1 M p → ¬ FreeAt times (entries P S) p t
+pub record ApartAndBusy (times : List ℕ) (M : ℕ) (procs starts ready : List ℕ) : Type 0 where
+  pub apart : (i j : ℕ) → IsSubtask times i → IsSubtask times j → ¬ Clash times procs starts i j
+  pub busy : (j t p : ℕ) → IsSubtask times j → getD ready j 0 ≤ t → t < itemOf starts j → Among 1 M p → ¬ FreeAt times (entries procs starts) p t
 
 -- starts of which 32 bits hold 256 times as much
-pub record Low (S : List ℕ) : Type 0 where
-  pub few : length S ≤ 256
-  pub low : (i : ℕ) → i < length S → getD S i 0 ≤ 16776960
+pub record Low (starts : List ℕ) : Type 0 where
+  pub few : length starts ≤ 256
+  pub low : (i : ℕ) → i < length starts → getD starts i 0 ≤ 16776960

@@ -1,31 +1,31 @@
 // How numbers are read out of the rows.
-use lent::byte;
-use lent::time_of;
+use inputs::time_of;
+use terms::Processor;
+use terms::Subtask;
 ghost use mathlib.Core.Path.{_≡_};
-ghost use Prim.Native.Nat.{_≤_};
 ghost use lib.ListN.{length};
-ghost use Rattle.terms.specs.Graphs.{IsSubtask};
-ghost use Rattle.entries.specs.Entries.{itemOf, finishOf};
+ghost use Rattle.terms.specs.Graphs.{Among, IsSubtask};
+ghost use Rattle.forms.specs.Forms.{itemOf, finishOf};
 ghost use Rattle.plancheck.specs.Known.{Timed};
 
 // The processor, the start and the end of subtask j.
-pub fn processor_of(procs: &[u8], j: usize) -> usize
-    requires { ⌜ (1 ≤ j) × (j ≤ length (now procs)) ⌝ }
-    ensures { λ r. ⌜ r ≡ itemOf (now (procs .entry)) j ⌝ }
+pub fn processor_of(procs: &[u8], j: Subtask) -> Processor
+    requires { ⌜ Among 1 (length (now procs)) (j .0) ⌝ }
+    ensures { λ r. ⌜ r .0 ≡ itemOf (now (procs .entry)) (j .0) ⌝ }
 {
-    byte(procs[j - 1])
+    Processor(procs[j.0 - 1])
 }
 
-pub fn start_of(starts: &[u32], j: usize) -> u32
-    requires { ⌜ (1 ≤ j) × (j ≤ length (now starts)) ⌝ }
-    ensures { λ r. ⌜ r ≡ itemOf (now (starts .entry)) j ⌝ }
+pub fn start_of(starts: &[u32], j: Subtask) -> u32
+    requires { ⌜ Among 1 (length (now starts)) (j .0) ⌝ }
+    ensures { λ r. ⌜ r ≡ itemOf (now (starts .entry)) (j .0) ⌝ }
 {
-    starts[j - 1]
+    starts[j.0 - 1]
 }
 
-pub fn end_of(times: &[u16], starts: &[u32], j: usize) -> u32
-    requires { ⌜ IsSubtask (now times) j × Timed (now times) (now starts) ⌝ }
-    ensures { λ r. ⌜ r ≡ finishOf (now (times .entry)) (now (starts .entry)) j ⌝ }
+pub fn end_of(times: &[u16], starts: &[u32], j: Subtask) -> u32
+    requires { ⌜ IsSubtask (now times) (j .0) × Timed (now times) (now starts) ⌝ }
+    ensures { λ r. ⌜ r ≡ finishOf (now (times .entry)) (now (starts .entry)) (j .0) ⌝ }
 {
     start_of(starts, j) + time_of(times, j)
 }

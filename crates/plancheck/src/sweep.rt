@@ -6,17 +6,20 @@ use crate::sort::insert_all;
 use crate::sort::keys;
 use crate::sort::pass;
 use crate::sort::rises;
-use lent::index;
+use inputs::usize_from_u32;
+use inputs::usize_from_u8;
+use terms::Subtask;
 ghost use mathlib.Core.Path.{_≡_};
 ghost use Prim.Native.Nat.{_+_, _%_, _≤_};
 ghost use lib.ListN.{length};
-ghost use Rattle.plancheck.specs.Sweeps.{Shows, Laid, SlackAt, Calm};
+ghost use Rattle.theory.specs.Flags.{Shows};
+ghost use Rattle.plancheck.specs.Sweeps.{Sweepable, SlackAt, ApartAndBusy};
 
 // The subtask of a key.
-fn subtask_in(key: u32) -> usize
-    ensures { λ r. ⌜ r ≡ key % 256 + 1 ⌝ }
+fn subtask_in(key: u32) -> Subtask
+    ensures { λ r. ⌜ r .0 ≡ key % 256 + 1 ⌝ }
 {
-    key as usize % 256 + 1
+    Subtask(key as usize % 256 + 1)
 }
 
 // The end of the latest slack before s: an instant is slack where some processor of 1..m is free.
@@ -27,7 +30,7 @@ fn slack_at(until: &[u32; 17], m: u32, s: u32, slack: u32) -> u32
     let mut p: u32 = 0;
     while p < m {
         p += 1;
-        if until[index(p)] < s {
+        if until[usize_from_u32(p)] < s {
             return s;
         }
     }
@@ -44,23 +47,25 @@ fn sweep(
     m: u32,
     row: &[u32; 256],
 ) -> bool
-    requires { ⌜ Laid (now times) m (now procs) (now starts) (now ready) × (length (now row) ≡ 256) ⌝ }
-    ensures { λ r. ⌜ Shows (Calm (now (times .entry)) m (now (procs .entry)) (now (starts .entry)) (now (ready .entry))) r ⌝ }
+    requires { ⌜ Sweepable (now times) m (now procs) (now starts) (now ready) × (length (now row) ≡ 256) ⌝ }
+    ensures { λ r. ⌜ Shows (ApartAndBusy (now (times .entry)) m (now (procs .entry)) (now (starts .entry)) (now (ready .entry))) r ⌝ }
 {
     let mut until = [0u32; 17];
     let mut before: u32 = 0;
     let mut slack: u32 = 0;
     let mut x: usize = 0;
     while x < times.len() {
-        let j = subtask_in(row[x]);
+        let subtask = subtask_in(row[x]);
+        let j = subtask.0;
         if times.len() < j {
             return false;
         }
-        let s = start_of(starts, j);
+        let s = start_of(starts, subtask);
         if s < before {
             return false;
         }
-        let p = processor_of(procs, j);
+        let processor = processor_of(procs, subtask);
+        let p = usize_from_u8(processor.0);
         if s < until[p] {
             return false;
         }
@@ -68,7 +73,7 @@ fn sweep(
         if ready[j] < slack {
             return false;
         }
-        until[p] = end_of(times, starts, j);
+        until[p] = end_of(times, starts, subtask);
         before = s;
         x += 1;
     }
@@ -76,9 +81,9 @@ fn sweep(
 }
 
 // Whether neither 16 nor 17 holds, as far as one sweep shows it: `true` is certain, `false` is not.
-pub fn orderly(times: &[u16], procs: &[u8], starts: &[u32], ready: &[u32; 257], m: u32) -> bool
-    requires { ⌜ Laid (now times) m (now procs) (now starts) (now ready) ⌝ }
-    ensures { λ r. ⌜ Shows (Calm (now (times .entry)) m (now (procs .entry)) (now (starts .entry)) (now (ready .entry))) r ⌝ }
+pub fn passes_sweep(times: &[u16], procs: &[u8], starts: &[u32], ready: &[u32; 257], m: u32) -> bool
+    requires { ⌜ Sweepable (now times) m (now procs) (now starts) (now ready) ⌝ }
+    ensures { λ r. ⌜ Shows (ApartAndBusy (now (times .entry)) m (now (procs .entry)) (now (starts .entry)) (now (ready .entry))) r ⌝ }
 {
     let n = times.len();
     let mut row = [0u32; 256];

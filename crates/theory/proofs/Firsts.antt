@@ -6,7 +6,7 @@ use Prim.Native.Nat.{ℕ, _+_, _-_, _≤_, _<_}
 use native.Mathlib.Omega.{arith}
 use Rattle.terms.specs.Graphs.{Among}
 use Rattle.theory.specs.First.{First, FirstSubtask}
-use Rattle.theory.specs.Flags.{Says}
+use Rattle.theory.specs.Flags.{Says, Shows}
 
 -- P holds at no place below i
 abbrev pub Clear : (ℕ → Type 0) → ℕ → Type 0
@@ -54,3 +54,6 @@ said {P} e h = subst (Says P) e h
 
 pub unsaid : {P : Type 0} {b : Bool} → b ≡ false → Says P b → ¬ P
 unsaid {P} e h = subst (Says P) e h
+
+pub shown : {P : Type 0} {b : Bool} → b ≡ true → Shows P b → P
+shown {P} e h = subst (Shows P) e h

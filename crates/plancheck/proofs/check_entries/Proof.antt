@@ -54,7 +54,7 @@ check-rows-requires : tie.Need-check-rows-requires
 check-rows-requires c κs =
     let c-pre = c .before .before .before .before .before .before .before .before .before .pre in
     let c-if3 = c .before .before .before .before .before .if3 in
-    record { graph = c-pre; processors = record { low = omega arith; high = omega arith }; long-P = length-take-le _ _ (omega (arith, c-pre .count .high)) ∙ c-if3 .left; long-S = length-take-le _ _ (omega (arith, c-pre .count .high)) ∙ c-if3 .left }
+    record { graph = c-pre; processors = record { low = omega arith; high = omega arith }; long-procs = length-take-le _ _ (omega (arith, c-pre .count .high)) ∙ c-if3 .left; long-starts = length-take-le _ _ (omega (arith, c-pre .count .high)) ∙ c-if3 .left }
 
 returns-4 : tie.Need-returns-4
 returns-4 c =

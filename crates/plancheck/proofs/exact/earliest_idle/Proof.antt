@@ -25,8 +25,8 @@ returns c = earliest-first _ _ _ _ (c .before .first-idle .ensures) (c .if1 .tak
 loop-holds : tie.Need-loop-holds Inv-loop μ-loop
 loop-holds c = (omega arith, earliest-none _ _ _ _ (c .before .first-idle .ensures) (c .if1 .left))
 
-sooner-requires : tie.Need-sooner-requires Inv-loop μ-loop
-sooner-requires c κs =
+earlier-idle-requires : tie.Need-earlier-idle-requires Inv-loop μ-loop
+earlier-idle-requires c κs =
     let c-pre = c .before .before .before .before .before .before .pre in
     ((c-pre .0, c-pre .1, record { low = omega arith; high = omega arith }), c .before .loop .inv .1)
 
@@ -37,7 +37,7 @@ loop-less : tie.Need-loop-less Inv-loop μ-loop
 loop-less c = search needs
 
 loop-again : tie.Need-loop-again Inv-loop μ-loop
-loop-again c = (omega arith, c .sooner .ensures)
+loop-again c = (omega arith, c .earlier-idle .ensures)
 
 returns-2 : tie.Need-returns-2 Inv-loop μ-loop
 returns-2 c =
@@ -54,7 +54,7 @@ earliest-idle-spec =
     first-idle-requires
     returns
     loop-holds
-    sooner-requires
+    earlier-idle-requires
     add-i
     loop-less
     loop-again

@@ -3,11 +3,10 @@ use Prim.Native.Nat.{_-_, _≤_}
 use native.Mathlib.Omega.{arith}
 use lib.ListN.{length}
 use borrow.Author.Needs.{needs}
-use Rattle.graph.proofs.Firsts.{first-here, first-none}
+use Rattle.theory.proofs.Firsts.{NoneTo, first-here, first-none}
 use denote.Ref.{now}
 use borrow.Author.Count.{below-more}
 use Rattle.plancheck.specs.Scans.{Idles}
-use Rattle.plancheck.proofs.Firsts.{NoneTo}
 use Rattle.plancheck.proofs.exact.first_idle.Statement.{statement}
 use Rattle.plancheck.proofs.exact.first_idle.Tie as tie
 

@@ -4,8 +4,9 @@ use native.Mathlib.Omega.{arith}
 use lib.ListN.{length}
 use borrow.Author.Needs.{needs}
 use borrow.Author.Count.{below-more}
+use Rattle.theory.proofs.Firsts.{NoneTo}
 use Rattle.plancheck.specs.Scans.{Clashes}
-use Rattle.plancheck.proofs.Firsts.{NoneTo, pair-found, pair-none, no-clashes}
+use Rattle.plancheck.proofs.Clashes.{pair-found, pair-none, no-clashes}
 use Rattle.plancheck.proofs.exact.first_sharing.Statement.{statement}
 use Rattle.plancheck.proofs.exact.first_sharing.Tie as tie
 

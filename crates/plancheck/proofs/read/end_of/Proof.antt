@@ -1,7 +1,7 @@
 -- `end_of`: start + time, in 32 bits. Assumes nothing.
 use native.Mathlib.Omega.{arith}
 use borrow.Author.Needs.{needs}
-use Rattle.entries.specs.Entries.{finishOf}
+use Rattle.forms.specs.Forms.{finishOf}
 use Rattle.plancheck.proofs.read.end_of.Statement.{statement}
 use Rattle.plancheck.proofs.read.end_of.Tie as tie
 

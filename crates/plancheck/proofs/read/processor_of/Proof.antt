@@ -1,6 +1,6 @@
 -- `processor_of`: what the row of processors holds for a subtask. Assumes nothing.
 use borrow.Author.Needs.{needs}
-use Rattle.entries.specs.Entries.{itemOf}
+use Rattle.forms.specs.Forms.{itemOf}
 use Rattle.plancheck.proofs.read.processor_of.Statement.{statement}
 use Rattle.plancheck.proofs.read.processor_of.Tie as tie
 

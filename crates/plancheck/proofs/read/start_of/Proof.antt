@@ -1,6 +1,6 @@
 -- `start_of`: what the row of starts holds for a subtask. Assumes nothing.
 use borrow.Author.Needs.{needs}
-use Rattle.entries.specs.Entries.{itemOf}
+use Rattle.forms.specs.Forms.{itemOf}
 use Rattle.plancheck.proofs.read.start_of.Statement.{statement}
 use Rattle.plancheck.proofs.read.start_of.Tie as tie
 

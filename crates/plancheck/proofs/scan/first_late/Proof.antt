@@ -3,10 +3,9 @@ use Prim.Native.Nat.{_-_, _≤_, _<_}
 use native.Mathlib.Omega.{arith}
 use lib.ListN.{length}
 use borrow.Author.Needs.{needs}
-use Rattle.entries.specs.Entries.{itemOf}
-use Rattle.graph.proofs.Firsts.{first-here, first-none}
+use Rattle.forms.specs.Forms.{itemOf}
+use Rattle.theory.proofs.Firsts.{NoneTo, first-here, first-none}
 use borrow.Author.Count.{below-more}
-use Rattle.plancheck.proofs.Firsts.{NoneTo}
 use Rattle.plancheck.proofs.scan.first_late.Statement.{statement}
 use Rattle.plancheck.proofs.scan.first_late.Tie as tie
 

@@ -5,9 +5,9 @@ use native.Mathlib.Omega.{arith}
 use lib.ListN.{length}
 use borrow.Author.Needs.{needs}
 use denote.Ref.{now}
-use Rattle.entries.specs.Entries.{finishOf}
+use Rattle.forms.specs.Forms.{finishOf}
 use Rattle.plancheck.specs.Known.{LatestEnds}
-use Rattle.plancheck.proofs.LatestOnes.{latest-none, latest-more}
+use Rattle.plancheck.proofs.LatestEnds.{latest-none, latest-more}
 use Rattle.plancheck.proofs.scan.latest_ends.Statement.{statement}
 use Rattle.plancheck.proofs.scan.latest_ends.Tie as tie
 

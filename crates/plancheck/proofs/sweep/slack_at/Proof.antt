@@ -23,8 +23,8 @@ loop-holds c = (omega arith, λ q a. absurd (omega (arith, a .low, a .high)))
 add-p : tie.Need-add-p Inv-loop μ-loop
 add-p c = search needs
 
-index-requires : tie.Need-index-requires Inv-loop μ-loop
-index-requires c κs = search needs
+usize-from-u32-requires : tie.Need-usize-from-u32-requires Inv-loop μ-loop
+usize-from-u32-requires c κs = search needs
 
 mul-if1 : tie.Need-mul-if1 Inv-loop μ-loop
 mul-if1 c = search needs
@@ -42,7 +42,7 @@ loop-again : tie.Need-loop-again Inv-loop μ-loop
 loop-again c =
     let c-args = c .before .before .before .before .before .args in
     let c-loop = c .before .before .before .before .loop in
-    let c-index = c .before .before .index in
+    let c-index = c .before .before .usize-from-u32 in
     let full : c-args .s ≤ getD (now (c-args .until)) (c-loop .p + 1) 0 = rw (← c-index .ensures) (c .if1 .left) in (omega arith, full-more (now (c-args .until)) _ _ (c-loop .inv .1) full)
 
 returns-2 : tie.Need-returns-2 Inv-loop μ-loop
@@ -56,7 +56,7 @@ slack-at-spec =
     μ-loop
     loop-holds
     add-p
-    index-requires
+    usize-from-u32-requires
     mul-if1
     element-copy-out-if1
     returns

@@ -43,7 +43,7 @@ returns-2 c = tt
 processor-of-requires : tie.Need-processor-of-requires Inv-loop μ-loop
 processor-of-requires c κs =
     let c-pre = c .before .before .before .before .before .before .before .before .before .before .pre in
-    (omega arith, omega (arith, c-pre .0 .long-P))
+    (omega arith, omega (arith, c-pre .0 .long-procs))
 
 mul-if3 : tie.Need-mul-if3 Inv-loop μ-loop
 mul-if3 c =

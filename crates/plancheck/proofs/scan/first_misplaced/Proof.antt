@@ -4,12 +4,11 @@ use native.Mathlib.Omega.{arith}
 use lib.ListN.{length}
 use borrow.Author.Needs.{needs}
 use Rattle.terms.specs.Graphs.{Among}
-use Rattle.entries.specs.Entries.{itemOf}
-use Rattle.graph.proofs.Firsts.{first-here, first-none}
+use Rattle.forms.specs.Forms.{itemOf}
+use Rattle.theory.proofs.Firsts.{NoneTo, first-here, first-none}
 use borrow.Author.Count.{below-more}
-use Rattle.plancheck.proofs.Firsts.{NoneTo}
-use Rattle.plancheck.proofs.scan.first_outside.Statement.{statement}
-use Rattle.plancheck.proofs.scan.first_outside.Tie as tie
+use Rattle.plancheck.proofs.scan.first_misplaced.Statement.{statement}
+use Rattle.plancheck.proofs.scan.first_misplaced.Tie as tie
 
 abbrev Inv-loop : tie.InvT-loop
 Inv-loop procs m most j₀ j = (j ≤ length procs) × NoneTo (λ k. ¬ Among 1 m (itemOf procs k)) j
@@ -56,8 +55,8 @@ returns-3 c =
     let c-loop = c .before .loop in
     first-none _ _ _ (c-loop .inv .1) (c .loop-test .left)
 
-pub first-outside-spec : {M : Type 1} → statement M
-first-outside-spec =
+pub first-misplaced-spec : {M : Type 1} → statement M
+first-misplaced-spec =
     tie.close
     (tie.spec
     Inv-loop

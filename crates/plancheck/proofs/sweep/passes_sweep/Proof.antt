@@ -1,10 +1,10 @@
--- `orderly`: the sweep shows what it shows, whatever the order of the row. Assumes nothing.
+-- `passes_sweep`: the sweep shows what it shows, whatever the order of the row. Assumes nothing.
 use Prim.Native.Nat.{ℕ}
 use lib.ListN.{length-replicate}
 use borrow.Author.Needs.{needs}
 use Rattle.plancheck.proofs.Swept.{low-starts}
-use Rattle.plancheck.proofs.sweep.orderly.Statement.{statement}
-use Rattle.plancheck.proofs.sweep.orderly.Tie as tie
+use Rattle.plancheck.proofs.sweep.passes_sweep.Statement.{statement}
+use Rattle.plancheck.proofs.sweep.passes_sweep.Tie as tie
 
 keys-requires : tie.Need-keys-requires
 keys-requires c κs =
@@ -44,8 +44,8 @@ sweep-requires-3 c κs = search needs
 returns-3 : tie.Need-returns-3
 returns-3 c = search needs
 
-pub orderly-spec : {M : Type 1} → statement M
-orderly-spec =
+pub passes-sweep-spec : {M : Type 1} → statement M
+passes-sweep-spec =
     tie.close
     (tie.spec
     keys-requires

@@ -1,8 +1,8 @@
--- `sooner`: the earliest so far, with one end more. Assumes nothing.
+-- `earlier_idle`: the earliest so far, with one end more. Assumes nothing.
 use borrow.Author.Needs.{needs}
 use Rattle.plancheck.proofs.Counts.{earliest-stays, earliest-moves, earliest-skips}
-use Rattle.plancheck.proofs.exact.sooner.Statement.{statement}
-use Rattle.plancheck.proofs.exact.sooner.Tie as tie
+use Rattle.plancheck.proofs.exact.earlier_idle.Statement.{statement}
+use Rattle.plancheck.proofs.exact.earlier_idle.Tie as tie
 
 add-end-of : tie.Need-add-end-of
 add-end-of c = search needs
@@ -33,6 +33,6 @@ returns-3 c =
     let c-end-of = c .before .before .before .end-of in
     earliest-skips _ _ _ _ (c-pre .1) (c-end-of .ensures) (c .before .first-idle .ensures) (c .if2 .left)
 
-pub sooner-spec : {M : Type 1} → statement M
-sooner-spec =
+pub earlier-idle-spec : {M : Type 1} → statement M
+earlier-idle-spec =
     tie.close (tie.spec add-end-of end-of-requires returns first-idle-requires returns-2 returns-3)
