@@ -1,10 +1,7 @@
-pub mod Ways
-pub mod Stores
-pub mod Firsts
+pub mod Ends
 pub mod Faulty
 pub mod Chained
 pub mod Repeated
-pub mod Tallies
+pub mod Marks
 pub mod Walked
 pub mod Weighed
-pub mod Examined

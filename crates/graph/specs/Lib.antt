@@ -1,5 +1,4 @@
-pub mod First
-pub mod Faults
+pub mod Scans
 pub mod Chains
 pub mod Ordered
 pub mod Latest

@@ -1,9 +1,16 @@
 -- `fault_of`: the answer is 0 where the ends are two subtasks, and 1 else. Assumes nothing.
 use mathlib.Core.Path.{refl}
 use mathlib.Core.Logic.{inl, inr}
+use borrow.Author.Needs.{needs}
 use native.Mathlib.Omega.{arith}
 use Rattle.graph.proofs.scan.fault_of.Statement.{statement}
 use Rattle.graph.proofs.scan.fault_of.Tie as tie
+
+array-read-from : tie.Need-array-read-from
+array-read-from c = search needs
+
+array-read-to : tie.Need-array-read-to
+array-read-to c = search needs
 
 returns : tie.Need-returns
 returns c = inr (refl, λ two. omega (arith, two .from-in .low))
@@ -31,4 +38,4 @@ returns-6 c = inl (
 )
 
 pub fault-of-spec : {M : Type 1} → statement M
-fault-of-spec = tie.close (tie.spec returns returns-2 returns-3 returns-4 returns-5 returns-6)
+fault-of-spec = tie.close (tie.spec array-read-from array-read-to returns returns-2 returns-3 returns-4 returns-5 returns-6)
