@@ -1,7 +1,15 @@
+-- the chains of arrows
+pub mod Chained
+-- scans
 pub mod Ends
 pub mod Faulty
-pub mod Chained
 pub mod Repeated
+-- the order
 pub mod Marks
 pub mod Walked
+pub mod NoCycle
+-- C and P
 pub mod Weighed
+-- the answers
+pub mod ArrowAnswers
+pub mod Replies

@@ -17,8 +17,9 @@ pub record TwoOf (n u v : ℕ) : Type 0 where
   pub apart : u ≢ v
 
 -- r is 0 where the ends of an arrow are two, and 1 else
-abbrev pub FaultOf : ℕ → List ℕ → ℕ → Type 0
-FaultOf n ends r = ((r ≡ 0) × TwoOf n (getD ends 0 0) (getD ends 1 0)) ⊎ ((r ≡ 1) × ¬ TwoOf n (getD ends 0 0) (getD ends 1 0))
+pub data FaultOf (n : ℕ) (ends : List ℕ) : ℕ → Type 0 where
+  right : TwoOf n (getD ends 0 0) (getD ends 1 0) → FaultOf n ends 0
+  wrong : ¬ TwoOf n (getD ends 0 0) (getD ends 1 0) → FaultOf n ends 1
 
 -- of the arrows below b at most r have ends that are no two; with r = 0 none has, else one has
 pub record Faults (n : ℕ) (arrows : List (List ℕ)) (b r : ℕ) : Type 0 where

@@ -1,5 +1,145 @@
-// Refusals 1 to 7, the order "predecessors first", C and P.
+// Refusals 1 to 8, the order "predecessors first", C and P.
 mod chains;
 mod order;
 mod scan;
 mod weigh;
+
+use crate::chains::chain;
+use crate::order::order_subtasks;
+use crate::scan::faults;
+use crate::scan::first_outside;
+use crate::scan::first_repeat;
+use crate::weigh::longest;
+use crate::weigh::total;
+use limits::check_processors;
+use limits::check_size;
+use limits::check_subtasks;
+use terms::Amount;
+use terms::Check;
+use terms::Measure;
+use terms::Weights;
+use terms::refuse;
+ghost use mathlib.Core.Path.{_≡_};
+ghost use lib.ListN.{length, replicate};
+ghost use Rattle.terms.specs.Rows.{Accepted};
+ghost use Rattle.terms.specs.Refusals.{subtaskRows, sizeRows, arrowRows, graphRows, onRows};
+ghost use Rattle.terms.specs.Replies.{IsCheck, IsMeasure, IsTotalWork, IsLongestPath};
+ghost use Rattle.graph.specs.Finds.{Finds};
+
+// 4 to 7. Where none holds, the arrows are left as chains and the subtasks in an order, predecessors first.
+fn check_arrows(
+    times: &[u16],
+    arrows: &[[u16; 2]],
+    first: &mut [u32; 257],
+    next: &mut [u16; 2048],
+    order: &mut [u16; 256],
+) -> Check
+    requires { ⌜ Accepted (subtaskRows (now times)) × Accepted (sizeRows (now arrows)) ⌝ }
+    requires { ⌜ (now first ≡ replicate 257 0) × (length (now next) ≡ 2048) × (length (now order) ≡ 256) ⌝ }
+    ensures { λ r. ⌜ Finds (arrowRows (now (times .entry)) (now (arrows .entry))) (now (times .entry)) (now (arrows .entry)) (now (first .exit)) (now (next .exit)) (now (order .exit)) r ⌝ }
+{
+    let n = times.len();
+    if faults(n, arrows) != 0 {
+        if first_outside(n, arrows) != 0 {
+            return Check::Refused(refuse(4));
+        }
+        return Check::Refused(refuse(5));
+    }
+    chain(n, arrows, first, next);
+    if first_repeat(n, arrows, first, next) != 0 {
+        return Check::Refused(refuse(6));
+    }
+    if order_subtasks(n, arrows, first, next, order) {
+        return Check::Sound;
+    }
+    Check::Refused(refuse(7))
+}
+
+// 1 to 7. Where none holds, the arrows are left as chains and the subtasks in an order, predecessors first.
+fn check_and_order(
+    times: &[u16],
+    arrows: &[[u16; 2]],
+    first: &mut [u32; 257],
+    next: &mut [u16; 2048],
+    order: &mut [u16; 256],
+) -> Check
+    requires { ⌜ (now first ≡ replicate 257 0) × (length (now next) ≡ 2048) × (length (now order) ≡ 256) ⌝ }
+    ensures { λ r. ⌜ Finds (graphRows (now (times .entry)) (now (arrows .entry))) (now (times .entry)) (now (arrows .entry)) (now (first .exit)) (now (next .exit)) (now (order .exit)) r ⌝ }
+{
+    match check_subtasks(times) {
+        Check::Refused(refusal) => Check::Refused(refusal),
+        Check::Sound => match check_size(arrows) {
+            Check::Refused(refusal) => Check::Refused(refusal),
+            Check::Sound => check_arrows(times, arrows, first, next, order),
+        },
+    }
+}
+
+// Whether a graph is accepted.
+pub fn check(times: &[u16], arrows: &[[u16; 2]]) -> Check
+    ensures { λ r. ⌜ IsCheck (graphRows (now (times .entry)) (now (arrows .entry))) r ⌝ }
+{
+    let mut first = [0u32; 257];
+    let mut next = [0u16; 2048];
+    let mut order = [0u16; 256];
+    check_and_order(times, arrows, &mut first, &mut next, &mut order)
+}
+
+// Whether a graph on m processors is accepted.
+pub fn check_on(times: &[u16], arrows: &[[u16; 2]], m: u32) -> Check
+    ensures { λ r. ⌜ IsCheck (onRows (now (times .entry)) (now (arrows .entry)) m) r ⌝ }
+{
+    match check(times, arrows) {
+        Check::Refused(refusal) => Check::Refused(refusal),
+        Check::Sound => check_processors(m),
+    }
+}
+
+// C and P together.
+pub fn measure(times: &[u16], arrows: &[[u16; 2]]) -> Measure
+    ensures { λ r. ⌜ IsMeasure (graphRows (now (times .entry)) (now (arrows .entry))) (now (times .entry)) (now (arrows .entry)) r ⌝ }
+{
+    let mut first = [0u32; 257];
+    let mut next = [0u16; 2048];
+    let mut order = [0u16; 256];
+    match check_and_order(times, arrows, &mut first, &mut next, &mut order) {
+        Check::Refused(refusal) => Measure::Refused(refusal),
+        Check::Sound => Measure::Is(Weights {
+            c: total(times),
+            p: longest(times, arrows, &first, &next, &order),
+        }),
+    }
+}
+
+// C and P of a graph on m processors.
+pub fn measure_on(times: &[u16], arrows: &[[u16; 2]], m: u32) -> Measure
+    ensures { λ r. ⌜ IsMeasure (onRows (now (times .entry)) (now (arrows .entry)) m) (now (times .entry)) (now (arrows .entry)) r ⌝ }
+{
+    match measure(times, arrows) {
+        Measure::Refused(refusal) => Measure::Refused(refusal),
+        Measure::Is(weights) => match check_processors(m) {
+            Check::Refused(refusal) => Measure::Refused(refusal),
+            Check::Sound => Measure::Is(weights),
+        },
+    }
+}
+
+// C.
+pub fn total_work(times: &[u16], arrows: &[[u16; 2]]) -> Amount
+    ensures { λ r. ⌜ IsTotalWork (now (times .entry)) (now (arrows .entry)) r ⌝ }
+{
+    match check(times, arrows) {
+        Check::Refused(refusal) => Amount::Refused(refusal),
+        Check::Sound => Amount::Is(total(times)),
+    }
+}
+
+// P.
+pub fn longest_path(times: &[u16], arrows: &[[u16; 2]]) -> Amount
+    ensures { λ r. ⌜ IsLongestPath (now (times .entry)) (now (arrows .entry)) r ⌝ }
+{
+    match measure(times, arrows) {
+        Measure::Refused(refusal) => Amount::Refused(refusal),
+        Measure::Is(weights) => Amount::Is(weights.p),
+    }
+}

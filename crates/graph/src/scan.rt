@@ -98,7 +98,11 @@ fn earlier(a: usize, b: usize) -> usize
 fn met_in(v: Subtask, seen: u16, met: u16) -> usize
     ensures { λ r. ⌜ (seen ≡ v .0 → r ≡ met) × (¬ (seen ≡ v .0) → r ≡ 0) ⌝ }
 {
-    if usize_from_u16(seen) == v.0 { usize_from_u16(met) } else { 0 }
+    if usize_from_u16(seen) == v.0 {
+        usize_from_u16(met)
+    } else {
+        0
+    }
 }
 
 // 6: the first arrow that is the same as one before it. Along the chain of arrows into v, the latest first, met[u] is the position of the

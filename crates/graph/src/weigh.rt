@@ -42,8 +42,9 @@ fn latest(
     requires { ⌜ Chains (toOf (now arrows)) (now first) (now next) (length (now arrows)) ⌝ }
     ensures { λ r. ⌜ Latest (now (arrows .entry)) (now (finish .entry)) (v .0) 0 r ⌝ }
 {
+    let to = v.0;
     let mut most: u32 = 0;
-    let mut c = chain_begin(first, v);
+    let mut c = chain_begin(first, Subtask(to));
     while c != 0 {
         let from = source(arrows, c);
         let p = from.0;

@@ -20,7 +20,7 @@ cast-most : tie.Need-cast-most Inv-loop μ-loop
 cast-most c = omega arith
 
 loop-holds : tie.Need-loop-holds Inv-loop μ-loop
-loop-holds c = (omega arith, faults-none _ _)
+loop-holds c = (omega arith, faults-none)
 
 mul-fault-of : tie.Need-mul-fault-of Inv-loop μ-loop
 mul-fault-of c = search needs
@@ -46,7 +46,7 @@ loop-less c = omega arith
 loop-again : tie.Need-loop-again Inv-loop μ-loop
 loop-again c =
     let c-loop = c .before .before .before .loop in
-    (omega arith, faults-more _ _ (c-loop .inv .1) (c .fault-of .ensures))
+    (omega arith, faults-more (c-loop .inv .1) (c .fault-of .ensures))
 
 returns : tie.Need-returns Inv-loop μ-loop
 returns c =

@@ -11,10 +11,10 @@ use Rattle.graph.proofs.weigh.latest.Statement.{statement}
 use Rattle.graph.proofs.weigh.latest.Tie as tie
 
 abbrev Inv-loop : tie.InvT-loop
-Inv-loop n v arrows first next finish most₀ c₀ most c = LookedAt arrows finish v c most
+Inv-loop n arrows first next finish to most₀ c₀ most c = LookedAt arrows finish to c most
 
 abbrev μ-loop : tie.MeasureT-loop
-μ-loop n v arrows first next finish most₀ c₀ most c = c
+μ-loop n arrows first next finish to most₀ c₀ most c = c
 
 chain-begin-requires : tie.Need-chain-begin-requires Inv-loop μ-loop
 chain-begin-requires c κs = c .pre .0 .1
@@ -22,7 +22,7 @@ chain-begin-requires c κs = c .pre .0 .1
 loop-holds : tie.Need-loop-holds Inv-loop μ-loop
 loop-holds c =
     let c-pre = c .before .pre in
-    rw (c .chain-begin .ensures) (looked-start _ _ _ _ (c-pre .1 .start (c .before .args .v) (c-pre .0 .1)))
+    rw (c .chain-begin .ensures) (looked-start _ _ _ _ (c-pre .1 .start (c .before .args .v .0) (c-pre .0 .1)))
 
 source-requires : tie.Need-source-requires Inv-loop μ-loop
 source-requires c κs = (omega arith, c .before .loop .inv .cap)
@@ -58,7 +58,7 @@ returns : tie.Need-returns Inv-loop μ-loop
 returns c =
     let c-args = c .before .before .before .args in
     let c-loop = c .before .loop in
-    let r : LookedAt (now (c-args .arrows)) (now (c-args .finish)) (c-args .v) 0 (c-loop .most) = rw (c .loop-test .left) at (c-loop .inv) in r .latest
+    let r : LookedAt (now (c-args .arrows)) (now (c-args .finish)) (c-args .v .0) 0 (c-loop .most) = rw (c .loop-test .left) at (c-loop .inv) in r .latest
 
 pub latest-spec : {M : Type 1} → statement M
 latest-spec =

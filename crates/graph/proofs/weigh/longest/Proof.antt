@@ -50,7 +50,7 @@ add-f c =
     let c-loop = c .before .before .before .before .before .before .loop in
     let c-loop-test = c .before .before .before .before .before .loop-test in
     let c-usize-from-u16 = c .before .before .before .usize-from-u16 in
-    omega (arith, time-fits _ _ _ (c-pre .0 .0) (c-pre .1 .1) _ _ _ (c-loop .inv) (c-loop-test .taken) _ (c-usize-from-u16 .ensures .0) _ (c .before .latest .ensures), c .time-of .ensures .2)
+    omega (arith, time-fits _ _ _ (c-pre .0 .0) (c-pre .1 .1) _ _ _ (c-loop .inv) (c-loop-test .taken) _ (c-usize-from-u16 .ensures .0) _ (c .before .latest .ensures), c .time-of .ensures .small)
 
 mul-finish : tie.Need-mul-finish Inv-loop μ-loop
 mul-finish c = omega (arith, entry-in (c .before .before .before))
@@ -75,7 +75,7 @@ loop-again c =
     let c-usize-from-u16 = c .before .before .before .before .usize-from-u16 in
     let c-latest = c .before .before .latest in
     let c-time-of = c .before .time-of in
-    weighed-more _ _ _ (c-pre .0 .0) (c-pre .1 .1) _ _ _ (c-loop .inv) (c-loop-test .taken) _ (c-usize-from-u16 .ensures .0) _ (c-latest .ensures) _ (c-time-of .ensures .0) (c-time-of .ensures .2) _ (c .larger .ensures)
+    weighed-more _ _ _ (c-pre .0 .0) (c-pre .1 .1) _ _ _ (c-loop .inv) (c-loop-test .taken) _ (c-usize-from-u16 .ensures .0) _ (c-latest .ensures) _ (c-time-of .ensures .is) (c-time-of .ensures .small) _ (c .larger .ensures)
 
 returns : tie.Need-returns Inv-loop μ-loop
 returns c =
