@@ -9,7 +9,7 @@ use lib.ListN.{length, getD, set, replicate, length-set, length-replicate, getD-
 use borrow.Author.Count.{below-more}
 use Rattle.terms.specs.Graphs.{fromOf, toOf}
 use Rattle.graph.specs.Chains.{Tidy, Last, Chains}
-use Rattle.graph.proofs.Stores.{read-set}
+use Rattle.theory.proofs.Stores.{read-set}
 
 last-none : (end : ℕ → ℕ) (v x : ℕ) → x ≡ 0 → Last end v 0 x
 last-none end v x e = record {

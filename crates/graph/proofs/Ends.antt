@@ -4,7 +4,7 @@ use mathlib.Core.List.{List}
 use Prim.Native.Nat.{ℕ, _≤_}
 use native.Mathlib.Omega.{arith}
 use Rattle.terms.specs.Graphs.{fromOf, toOf}
-use Rattle.graph.specs.First.{Outside}
+use Rattle.graph.specs.Scans.{Outside}
 
 -- both ends of the arrow at a place are of 1..n
 pub within : (n : ℕ) (arrows : List (List ℕ)) (a u v : ℕ) → u ≡ fromOf arrows a → v ≡ toOf arrows a → 1 ≤ u → u ≤ n → 1 ≤ v → v ≤ n → ¬ Outside n arrows a

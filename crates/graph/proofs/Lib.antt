@@ -1,10 +1,15 @@
-pub mod Ways
-pub mod Stores
-pub mod Firsts
-pub mod Faulty
+-- the chains of arrows
 pub mod Chained
+-- scans
+pub mod Ends
+pub mod Faulty
 pub mod Repeated
-pub mod Tallies
+-- the order
+pub mod Marks
 pub mod Walked
+pub mod NoCycle
+-- C and P
 pub mod Weighed
-pub mod Examined
+-- the answers
+pub mod ArrowAnswers
+pub mod Replies

@@ -9,9 +9,10 @@ use native.Mathlib.Decide.{decLe, ℕ-discrete}
 use lib.ListN.{length, getD, set, replicate, length-set, length-replicate, getD-replicate}
 use Rattle.terms.specs.Graphs.{fromOf, toOf}
 use Rattle.terms.specs.Refusals.{Repeats}
-use Rattle.graph.specs.First.{First, Earlier}
+use Rattle.theory.specs.First.{First}
+use Rattle.graph.specs.Scans.{Earlier}
 use Rattle.graph.specs.Chains.{Tidy, Last}
-use Rattle.graph.proofs.Stores.{read-set, read-sets}
+use Rattle.theory.proofs.Stores.{read-set, read-sets}
 use Rattle.graph.proofs.Chained.{from-small, passed-now}
 
 -- a position was found, and none later than j's

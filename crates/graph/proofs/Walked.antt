@@ -11,9 +11,10 @@ use borrow.Author.Count.{below-more}
 use Rattle.terms.specs.Graphs.{Among, fromOf, toOf, LeadsTo, step, more}
 use Rattle.graph.specs.Chains.{Tidy, Last, Chains}
 use Rattle.graph.specs.Ordered.{StandsBelow, Ordered}
-use Rattle.graph.proofs.Stores.{read-set}
+use Rattle.theory.proofs.Stores.{read-set}
 use Rattle.graph.proofs.Chained.{from-small, passed-now}
-use Rattle.graph.proofs.Tallies.{tally, tally-set, tally-none, tally-all, new, unplaced, new-is, new-not, unplaced-is, unplaced-not}
+use Rattle.theory.proofs.Tallies.{tally, tally-set, tally-none, tally-all}
+use Rattle.graph.proofs.Marks.{new, unplaced, new-is, new-not, unplaced-is, unplaced-not}
 
 module _ (n : ℕ) (arrows : List (List ℕ)) where
   -- the arrow at position a leads from depth i + 1 of the way to depth i

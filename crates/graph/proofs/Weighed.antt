@@ -13,7 +13,7 @@ use Rattle.terms.specs.Paths.{PathTo, alone, along, weight, IsLongest}
 use Rattle.graph.specs.Chains.{Tidy, Last}
 use Rattle.graph.specs.Ordered.{Ordered}
 use Rattle.graph.specs.Latest.{Latest}
-use Rattle.graph.proofs.Stores.{read-set}
+use Rattle.theory.proofs.Stores.{read-set}
 use Rattle.graph.proofs.Chained.{from-small, passed-now}
 
 -- the larger of two numbers is one of them

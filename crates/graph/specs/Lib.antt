@@ -1,5 +1,5 @@
-pub mod First
-pub mod Faults
+pub mod Scans
 pub mod Chains
 pub mod Ordered
 pub mod Latest
+pub mod Finds

@@ -20,7 +20,7 @@ pub record Ordered (n : ℕ) (arrows : List (List ℕ)) (row : List ℕ) : Type 
   -- an arrow into entry j comes from an entry before it
   pub first : (k : ℕ) → k < length arrows → (j : ℕ) → j < n → getD row j 0 ≡ toOf arrows k → StandsBelow row j (fromOf arrows k)
 
--- the flag says that there is a cycle; without one the row is an order
-abbrev pub Placing : ℕ → List (List ℕ) → List ℕ → Bool → Type 0
-Placing n arrows row true = (j : ℕ) × LeadsTo arrows j j
-Placing n arrows row false = Ordered n arrows row
+-- the row is an order; or, where the flag says no, the arrows close a cycle
+abbrev pub Orders : ℕ → List (List ℕ) → List ℕ → Bool → Type 0
+Orders n arrows row true = Ordered n arrows row
+Orders n arrows row false = (j : ℕ) × LeadsTo arrows j j

@@ -1,7 +1,8 @@
 // The arrows as chains, one for each subtask.
-use lent::index;
-use lent::to_at;
-use lent::wide;
+use inputs::to_at;
+use inputs::usize_from_u16;
+use inputs::usize_from_u32;
+use terms::Subtask;
 ghost use mathlib.Core.Path.{_≡_};
 ghost use Prim.Native.Nat.{_-_, _≤_, _<_};
 ghost use lib.ListN.{length, replicate, getD};
@@ -17,34 +18,36 @@ pub fn chain(n: usize, arrows: &[[u16; 2]], first: &mut [u32; 257], next: &mut [
 {
     let mut i: usize = 0;
     while i < arrows.len() {
-        let v = to_at(arrows, i);
+        let to = to_at(arrows, i);
+        let v = to.0;
         next[i] = first[v] as u16;
         first[v] = (i + 1) as u32;
         i += 1;
     }
 }
 
-// The position at which the chain of v starts.
-pub fn start_of(first: &[u32; 257], v: usize) -> usize
-    requires { ⌜ v < 257 ⌝ }
-    ensures { λ r. ⌜ r ≡ getD (now (first .entry)) v 0 ⌝ }
+// The position at which the chain of v begins.
+pub fn chain_begin(first: &[u32; 257], v: Subtask) -> usize
+    requires { ⌜ v .0 < 257 ⌝ }
+    ensures { λ r. ⌜ r ≡ getD (now (first .entry)) (v .0) 0 ⌝ }
 {
-    index(first[v])
+    let j = v.0;
+    usize_from_u32(first[j])
 }
 
 // The position that comes after c in its chain.
-pub fn after(next: &[u16; 2048], c: usize) -> usize
+pub fn chain_next(next: &[u16; 2048], c: usize) -> usize
     requires { ⌜ (1 ≤ c) × (c ≤ 2048) ⌝ }
     ensures { λ r. ⌜ r ≡ getD (now (next .entry)) (c - 1) 0 ⌝ }
 {
-    wide(next[c - 1])
+    usize_from_u16(next[c - 1])
 }
 
 // The subtask from which the arrow at position c comes.
-pub fn source(arrows: &[[u16; 2]], c: usize) -> usize
+pub fn source(arrows: &[[u16; 2]], c: usize) -> Subtask
     requires { ⌜ (1 ≤ c) × (c ≤ length (now arrows)) ⌝ }
-    ensures { λ r. ⌜ (r ≡ fromOf (now (arrows .entry)) (c - 1)) × (r < 65536) ⌝ }
+    ensures { λ r. ⌜ (r .0 ≡ fromOf (now (arrows .entry)) (c - 1)) × (r .0 < 65536) ⌝ }
 {
     let ends = arrows[c - 1];
-    wide(ends[0])
+    Subtask(usize_from_u16(ends[0]))
 }

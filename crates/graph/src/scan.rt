@@ -1,33 +1,19 @@
-// Each scan answers the first position, from 1, at which a condition holds, and 0 for none.
-use crate::chains::after;
+// Scans over the arrows. One that answers a position answers the first, from 1 on, at which a condition holds, and 0 for none.
+use crate::chains::chain_begin;
+use crate::chains::chain_next;
 use crate::chains::source;
-use crate::chains::start_of;
-use lent::from_at;
-use lent::to_at;
-use lent::wide;
+use inputs::from_at;
+use inputs::to_at;
+use inputs::usize_from_u16;
+use terms::Subtask;
 ghost use mathlib.Core.Path.{_≡_};
 ghost use Prim.Native.Nat.{_≤_};
-ghost use lib.ListN.{length, getD};
+ghost use lib.ListN.{length};
 ghost use Rattle.terms.specs.Graphs.{toOf};
 ghost use Rattle.terms.specs.Refusals.{Repeats};
-ghost use Rattle.graph.specs.First.{First, Outside, Earlier};
-ghost use Rattle.graph.specs.Faults.{FaultOf, Faults};
+ghost use Rattle.theory.specs.First.{First};
+ghost use Rattle.graph.specs.Scans.{Outside, FaultOf, Faults, Earlier};
 ghost use Rattle.graph.specs.Chains.{Chains, Tidy};
-
-// 2: the first time that is 0.
-pub fn first_zero(times: &[u16]) -> usize
-    ensures { λ r. ⌜ First (length (now (times .entry))) (λ i. getD (now (times .entry)) i 0 ≡ 0) r ⌝ }
-{
-    let mut i: usize = 0;
-    while i < times.len() {
-        let time = times[i];
-        i += 1;
-        if time == 0 {
-            return i;
-        }
-    }
-    0
-}
 
 // 4: the first arrow that names a subtask outside 1..n.
 pub fn first_outside(n: usize, arrows: &[[u16; 2]]) -> usize
@@ -35,8 +21,10 @@ pub fn first_outside(n: usize, arrows: &[[u16; 2]]) -> usize
 {
     let mut i: usize = 0;
     while i < arrows.len() {
-        let u = from_at(arrows, i);
-        let v = to_at(arrows, i);
+        let from = from_at(arrows, i);
+        let u = from.0;
+        let to = to_at(arrows, i);
+        let v = to.0;
         i += 1;
         if u < 1 {
             return i;
@@ -55,9 +43,11 @@ pub fn first_outside(n: usize, arrows: &[[u16; 2]]) -> usize
 }
 
 // 1 where an arrow names a subtask outside 1..most or goes from a subtask to itself, else 0.
-fn fault_of(most: u16, from: u16, to: u16) -> u16
-    ensures { λ r. ⌜ FaultOf most from to r ⌝ }
+fn fault_of(most: u16, ends: [u16; 2]) -> u16
+    ensures { λ r. ⌜ FaultOf most ends r ⌝ }
 {
+    let from = ends[0];
+    let to = ends[1];
     if from < 1 {
         return 1;
     }
@@ -85,8 +75,7 @@ pub fn faults(n: usize, arrows: &[[u16; 2]]) -> u16
     let mut count: u16 = 0;
     let mut i: usize = 0;
     while i < arrows.len() {
-        let ends = arrows[i];
-        count += fault_of(most, ends[0], ends[1]);
+        count += fault_of(most, arrows[i]);
         i += 1;
     }
     count
@@ -106,10 +95,14 @@ fn earlier(a: usize, b: usize) -> usize
 }
 
 // The position that was met last, where it was met in the chain of v, else 0.
-fn met_in(v: usize, seen: u16, met: u16) -> usize
-    ensures { λ r. ⌜ (seen ≡ v → r ≡ met) × (¬ (seen ≡ v) → r ≡ 0) ⌝ }
+fn met_in(v: Subtask, seen: u16, met: u16) -> usize
+    ensures { λ r. ⌜ (seen ≡ v .0 → r ≡ met) × (¬ (seen ≡ v .0) → r ≡ 0) ⌝ }
 {
-    if wide(seen) == v { wide(met) } else { 0 }
+    if usize_from_u16(seen) == v.0 {
+        usize_from_u16(met)
+    } else {
+        0
+    }
 }
 
 // 6: the first arrow that is the same as one before it. Along the chain of arrows into v, the latest first, met[u] is the position of the
@@ -130,14 +123,15 @@ pub fn first_repeat(n: usize, arrows: &[[u16; 2]], first: &[u32; 257], next: &[u
                 return found;
             }
             v += 1;
-            c = start_of(first, v);
+            c = chain_begin(first, Subtask(v));
         } else {
-            let u = source(arrows, c);
-            let same = met_in(v, seen[u], met[u]);
+            let from = source(arrows, c);
+            let u = from.0;
+            let same = met_in(Subtask(v), seen[u], met[u]);
             found = earlier(found, same);
             seen[u] = v as u16;
             met[u] = c as u16;
-            c = after(next, c);
+            c = chain_next(next, c);
         }
     }
 }

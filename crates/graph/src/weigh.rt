@@ -1,11 +1,11 @@
 // C and P.
-use crate::chains::after;
+use crate::chains::chain_begin;
+use crate::chains::chain_next;
 use crate::chains::source;
-use crate::chains::start_of;
-use lent::larger;
-use lent::long;
-use lent::time_of;
-use lent::wide;
+use inputs::larger;
+use inputs::time_of;
+use inputs::usize_from_u16;
+use terms::Subtask;
 ghost use mathlib.Core.Path.{_≡_};
 ghost use Prim.Native.Nat.{_≤_, _<_};
 ghost use lib.ListN.{length};
@@ -23,8 +23,8 @@ pub fn total(times: &[u16]) -> u32
     let mut sum: u32 = 0;
     let mut i: usize = 0;
     while i < times.len() {
-        sum += long(times[i]);
         i += 1;
+        sum += time_of(times, Subtask(i));
     }
     sum
 }
@@ -32,22 +32,24 @@ pub fn total(times: &[u16]) -> u32
 // The largest finish of the subtasks from which an arrow of the chain goes to v, 0 for none.
 fn latest(
     n: usize,
-    v: usize,
+    v: Subtask,
     arrows: &[[u16; 2]],
     first: &[u32; 257],
     next: &[u16; 2048],
     finish: &[u32; 257],
 ) -> u32
-    requires { ⌜ Tidy n (now arrows) × (v < 257) ⌝ }
+    requires { ⌜ Tidy n (now arrows) × (v .0 < 257) ⌝ }
     requires { ⌜ Chains (toOf (now arrows)) (now first) (now next) (length (now arrows)) ⌝ }
-    ensures { λ r. ⌜ Latest (now (arrows .entry)) (now (finish .entry)) v 0 r ⌝ }
+    ensures { λ r. ⌜ Latest (now (arrows .entry)) (now (finish .entry)) (v .0) 0 r ⌝ }
 {
+    let to = v.0;
     let mut most: u32 = 0;
-    let mut c = start_of(first, v);
+    let mut c = chain_begin(first, Subtask(to));
     while c != 0 {
-        let p = source(arrows, c);
+        let from = source(arrows, c);
+        let p = from.0;
         most = larger(most, finish[p]);
-        c = after(next, c);
+        c = chain_next(next, c);
     }
     most
 }
@@ -69,9 +71,9 @@ pub fn longest(
     let mut most: u32 = 0;
     let mut j: usize = 0;
     while j < times.len() {
-        let v = wide(order[j]);
-        let before = latest(times.len(), v, arrows, first, next, &finish);
-        let time = time_of(times, v);
+        let v = usize_from_u16(order[j]);
+        let before = latest(times.len(), Subtask(v), arrows, first, next, &finish);
+        let time = time_of(times, Subtask(v));
         let f = before + time;
         finish[v] = f;
         most = larger(most, f);

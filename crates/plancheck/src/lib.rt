@@ -15,6 +15,7 @@ use crate::sweep::passes_sweep;
 use forms::NEVER;
 use forms::last_end;
 use forms::split;
+use graph::check_on;
 use terms::Check;
 use terms::Entry;
 use terms::PlanEnd;
@@ -107,3 +108,18 @@ fn check_entries(
     check_rows(times, arrows, m, &procs[..n], &starts[..n])
 }
 
+// The plan check of a plan of n entries, which the table holds where they are at most 256: the plan's end, or the refusal.
+pub fn check_table(
+    times: &[u16],
+    arrows: &[[u16; 2]],
+    m: u32,
+    table: [Entry; 256],
+    n: usize,
+) -> PlanEnd
+    ensures { λ r. ⌜ ChecksTable (now (times .entry)) (now (arrows .entry)) m table n r ⌝ }
+{
+    match check_on(times, arrows, m) {
+        Check::Refused(refusal) => PlanEnd::Refused(refusal),
+        Check::Sound => check_entries(times, arrows, m, table, n),
+    }
+}

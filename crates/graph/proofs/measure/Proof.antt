@@ -1,43 +1,46 @@
--- `measure`: the reply has C and P, or the refusal of the table. Assumes nothing.
+-- `measure`: the reply has C and P, or the refusal of the rows 1 to 7. Assumes nothing.
 use mathlib.Core.Path.{refl}
 use Prim.Native.Nat.{ℕ}
-use lib.ListN.{length-replicate}
+use lib.ListN.{length, length-replicate}
 use borrow.Author.Needs.{needs}
+use denote.Ref.{now}
 use Rattle.terms.specs.Replies.{IsMeasure}
-use Rattle.graph.proofs.Examined.{accepted, refused, sized}
+use Rattle.graph.proofs.Replies.{finds-sound, finds-refused, sized}
 use Rattle.graph.proofs.measure.Statement.{statement}
 use Rattle.graph.proofs.measure.Tie as tie
 
-examine-requires : tie.Need-examine-requires
-examine-requires c κs = (refl, length-replicate {A = ℕ} 2048 0, length-replicate {A = ℕ} 256 0)
+check-and-order-requires : tie.Need-check-and-order-requires
+check-and-order-requires c κs = (refl, length-replicate {A = ℕ} 2048 0, length-replicate {A = ℕ} 256 0)
+
+enum-known-refusal : tie.Need-enum-known-refusal
+enum-known-refusal c = search needs
+
+enum-told : tie.Need-enum-told
+enum-told c = search needs
 
 total-requires : tie.Need-total-requires
-total-requires c κs = sized _ _ (accepted _ _ _ (c .before .examine .ensures .0) (c .if1 .taken)) .0 .subtasks
+total-requires c κs =
+    let found = finds-sound (rw (c .enum-told .given .1) at (c .before .before .check-and-order .ensures)) in
+    sized _ _ (found .0) .0 .subtasks
 
 longest-requires : tie.Need-longest-requires
 longest-requires c κs =
-    let c-examine = c .before .before .before .before .before .examine in
-    let c-if1 = c .before .before .before .before .if1 in
-    let both = c-examine .ensures .1 (c-if1 .taken) in (sized _ _ (accepted _ _ _ (c-examine .ensures .0) (c-if1 .taken)), (both .0, both .1))
-
-refusal-requires : tie.Need-refusal-requires
-refusal-requires c κs = search needs
+    let at = c .before .before .before .before in
+    let found = finds-sound (rw (at .enum-told .given .1) at (at .before .before .check-and-order .ensures)) in
+    (sized _ _ (found .0), (found .1, found .2))
 
 returns : tie.Need-returns
 unfolding IsMeasure
-returns c =
-    let c-examine = c .before .before .before .before .before .before .examine in
-    let c-if1 = c .before .before .before .before .before .if1 in
-    let c-total = c .before .before .before .before .total in
-    (accepted _ _ _ (c-examine .ensures .0) (c-if1 .taken), c-total .ensures, c .longest .ensures)
+returns c = finds-refused (rw (c .before .refusal .given .1) at (c .before .before .before .check-and-order .ensures))
 
 returns-2 : tie.Need-returns-2
 unfolding IsMeasure
 returns-2 c =
-    let c-examine = c .before .before .examine in
-    refused _ _ _ _ (c-examine .ensures .0) (c .before .if1 .left) (c .refusal .ensures)
+    let at = c .before .before .before .before .before in
+    let found = finds-sound (rw (at .enum-told .given .1) at (at .before .before .check-and-order .ensures)) in
+    (found .0, c .before .before .before .before .total .ensures, c .longest .ensures)
 
 pub measure-spec : {M : Type 1} → statement M
 measure-spec =
     tie.close
-    (tie.spec examine-requires total-requires longest-requires refusal-requires returns returns-2)
+    (tie.spec check-and-order-requires enum-known-refusal enum-told total-requires longest-requires returns returns-2)

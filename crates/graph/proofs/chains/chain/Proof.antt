@@ -17,7 +17,7 @@ Inv-loop n arrows first₀ next₀ i₀ first next i = (i ≤ length arrows) × 
 abbrev μ-loop : tie.MeasureT-loop
 μ-loop n arrows first₀ next₀ i₀ first next i = length arrows - i
 
-to-in : (c : tie.After-to-at Inv-loop μ-loop) → c .to-at .result < 257
+to-in : (c : tie.After-to-at Inv-loop μ-loop) → c .to-at .result .0 < 257
 to-in c =
     let c-pre = c .before .before .before .pre in
     to-small (c-pre .0) _ _ (c .before .loop-test .taken) (c .to-at .ensures .0)
@@ -40,7 +40,7 @@ cast-next : tie.Need-cast-next Inv-loop μ-loop
 cast-next c =
     let c-pre = c .before .before .before .before .pre in
     let c-loop = c .before .before .before .loop in
-    omega (arith, c-loop .inv .1 .start (c .before .to-at .result) (to-in (c .before)) .within, c-pre .0 .few)
+    omega (arith, c-loop .inv .1 .start (c .before .to-at .result .0) (to-in (c .before)) .within, c-pre .0 .few)
 
 mul-next-2 : tie.Need-mul-next-2 Inv-loop μ-loop
 mul-next-2 c = search needs

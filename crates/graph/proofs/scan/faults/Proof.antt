@@ -5,9 +5,8 @@ use native.Mathlib.Omega.{arith}
 use lib.ListN.{length}
 use borrow.Author.Needs.{needs}
 use denote.Ref.{now}
-use Rattle.graph.specs.Faults.{Faults}
+use Rattle.graph.specs.Scans.{Faults}
 use Rattle.graph.proofs.Faulty.{fault-small, faults-none, faults-more}
-use Rattle.terms.specs.Graphs.{fromOf, toOf}
 use Rattle.graph.proofs.scan.faults.Statement.{statement}
 use Rattle.graph.proofs.scan.faults.Tie as tie
 
@@ -21,19 +20,13 @@ cast-most : tie.Need-cast-most Inv-loop μ-loop
 cast-most c = omega arith
 
 loop-holds : tie.Need-loop-holds Inv-loop μ-loop
-loop-holds c = (omega arith, faults-none _ _)
+loop-holds c = (omega arith, faults-none)
 
-mul-ends : tie.Need-mul-ends Inv-loop μ-loop
-mul-ends c = search needs
+mul-fault-of : tie.Need-mul-fault-of Inv-loop μ-loop
+mul-fault-of c = search needs
 
-shared-slice-copy-out-ends : tie.Need-shared-slice-copy-out-ends Inv-loop μ-loop
-shared-slice-copy-out-ends c = search needs
-
-array-read-fault-of : tie.Need-array-read-fault-of Inv-loop μ-loop
-array-read-fault-of c = search needs
-
-array-read-fault-of-2 : tie.Need-array-read-fault-of-2 Inv-loop μ-loop
-array-read-fault-of-2 c = search needs
+shared-slice-copy-out-fault-of : tie.Need-shared-slice-copy-out-fault-of Inv-loop μ-loop
+shared-slice-copy-out-fault-of c = search needs
 
 fault-of-requires : tie.Need-fault-of-requires Inv-loop μ-loop
 fault-of-requires c κs = search needs
@@ -42,7 +35,7 @@ add-count : tie.Need-add-count Inv-loop μ-loop
 add-count c =
     let c-loop = c .before .before .before .loop in
     let c-pre = c .before .before .before .before .pre in
-    omega (arith, fault-small _ _ _ _ (c .fault-of .ensures), c-loop .inv .1 .most, c-pre .1)
+    omega (arith, fault-small (c .fault-of .ensures), c-loop .inv .1 .most, c-pre .1)
 
 add-i : tie.Need-add-i Inv-loop μ-loop
 add-i c = search needs
@@ -51,10 +44,9 @@ loop-less : tie.Need-loop-less Inv-loop μ-loop
 loop-less c = omega arith
 
 loop-again : tie.Need-loop-again Inv-loop μ-loop
-unfolding fromOf toOf
 loop-again c =
     let c-loop = c .before .before .before .loop in
-    (omega arith, faults-more _ _ _ _ _ (c-loop .inv .1) (c .fault-of .ensures))
+    (omega arith, faults-more (c-loop .inv .1) (c .fault-of .ensures))
 
 returns : tie.Need-returns Inv-loop μ-loop
 returns c =
@@ -70,10 +62,8 @@ faults-spec =
     μ-loop
     cast-most
     loop-holds
-    mul-ends
-    shared-slice-copy-out-ends
-    array-read-fault-of
-    array-read-fault-of-2
+    mul-fault-of
+    shared-slice-copy-out-fault-of
     fault-of-requires
     add-count
     add-i

@@ -4,8 +4,9 @@ use native.Mathlib.Omega.{arith}
 use lib.ListN.{length}
 use borrow.Author.Needs.{needs}
 use borrow.Author.Count.{below-more}
-use Rattle.graph.specs.First.{Outside}
-use Rattle.graph.proofs.Firsts.{Clear, first-here, first-none, within, from-out, to-out}
+use Rattle.graph.specs.Scans.{Outside}
+use Rattle.theory.proofs.Firsts.{Clear, first-here, first-none}
+use Rattle.graph.proofs.Ends.{within, from-out, to-out}
 use Rattle.graph.proofs.scan.first_outside.Statement.{statement}
 use Rattle.graph.proofs.scan.first_outside.Tie as tie
 

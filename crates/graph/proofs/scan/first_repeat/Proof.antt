@@ -4,7 +4,7 @@ use Prim.Native.Nat.{_+_, _-_, _*_, _≤_, _<_}
 use native.Mathlib.Omega.{arith}
 use borrow.Author.Needs.{needs}
 use denote.Ref.{now}
-use Rattle.graph.proofs.Ways.{both}
+use Rattle.theory.proofs.Rounds.{both}
 use Rattle.graph.proofs.Repeated.{Met, met-start, met-next, at-cursor, at-arrow, met-pass, met-end}
 use Rattle.graph.proofs.scan.first_repeat.Statement.{statement}
 use Rattle.graph.proofs.scan.first_repeat.Tie as tie
@@ -16,7 +16,7 @@ abbrev μ-loop : tie.MeasureT-loop
 μ-loop n arrows first next seen₀ met₀ found₀ v₀ c₀ seen met found v c = (n - v) * 2049 + c
 
 -- at the arrow at the cursor, which comes from u, the numbers are small
-small : (c : tie.After-source Inv-loop μ-loop) → (c .source .result < 257) × (c .before .before .loop .v ≤ 256) × (c .before .before .loop .c ≤ 2048)
+small : (c : tie.After-source Inv-loop μ-loop) → (c .source .result .0 < 257) × (c .before .before .loop .v ≤ 256) × (c .before .before .loop .c ≤ 2048)
 small c = at-arrow _ _ (c .before .before .before .pre .0) _ _ _ _ _ _ (c .before .before .loop .inv .1) (c .before .if1 .left) (c .source .ensures .0)
 
 loop-holds : tie.Need-loop-holds Inv-loop μ-loop
@@ -34,8 +34,8 @@ add-v c =
     let c-pre = c .before .before .before .pre in
     omega (arith, c-pre .0 .subtasks)
 
-start-of-requires : tie.Need-start-of-requires Inv-loop μ-loop
-start-of-requires c κs =
+chain-begin-requires : tie.Need-chain-begin-requires Inv-loop μ-loop
+chain-begin-requires c κs =
     let c-pre = c .before .before .before .pre in
     omega (arith, c-pre .0 .subtasks)
 
@@ -45,7 +45,7 @@ next-chain = both (λ c.
     let c-loop = c .before .before .before .loop in
     let c-if1 = c .before .before .if1 in
     let c-pre = c .before .before .before .before .pre in
-    let last = rw (← c .start-of .ensures) at (c-pre .1 .start (c-loop .v + 1) (omega (arith, c-pre .0 .subtasks))) in
+    let last = rw (← c .chain-begin .ensures) at (c-pre .1 .start (c-loop .v + 1) (omega (arith, c-pre .0 .subtasks))) in
     let r : Met (now (c-args .arrows)) (c-loop .seen) (c-loop .met) (c-loop .found) (c-loop .v) 0 = rw (c-if1 .taken) at (c-loop .inv .1) in
     ((omega arith, met-next _ _ _ _ _ _ last r), omega (arith, last .within, c-pre .0 .few)))
 
@@ -88,8 +88,8 @@ mul-met c = search needs
 array-write-met : tie.Need-array-write-met Inv-loop μ-loop
 array-write-met c = small (c .before .before) .0
 
-after-requires : tie.Need-after-requires Inv-loop μ-loop
-after-requires c κs = (omega arith, small (c .before .before) .2)
+chain-next-requires : tie.Need-chain-next-requires Inv-loop μ-loop
+chain-next-requires c κs = (omega arith, small (c .before .before) .2)
 
 passes : tie.Need-loop-again-2 Inv-loop μ-loop × tie.Need-loop-less-2 Inv-loop μ-loop
 passes = both (λ c.
@@ -98,7 +98,7 @@ passes = both (λ c.
     let c-if1 = c .before .before .before .before .if1 in
     let c-source = c .before .before .before .source in
     let c-met-in = c .before .before .met-in in
-    let last = rw (← c .after .ensures) at (c-pre .1 .step (c-loop .c - 1) (at-cursor _ _ (c-pre .0) _ _ _ _ _ _ (c-loop .inv .1) (c-if1 .left) refl)) in
+    let last = rw (← c .chain-next .ensures) at (c-pre .1 .step (c-loop .c - 1) (at-cursor _ _ (c-pre .0) _ _ _ _ _ _ (c-loop .inv .1) (c-if1 .left) refl)) in
     ((omega arith, met-pass _ _ (c-pre .0) _ _ _ _ _ _ (c-loop .inv .1) (c-if1 .left) (c-source .ensures .0) _ _ _ (c-met-in .ensures) (c .before .earlier .ensures) last), omega (arith, last .within)))
 
 pub first-repeat-spec : {M : Type 1} → statement M
@@ -110,7 +110,7 @@ first-repeat-spec =
     loop-holds
     returns
     add-v
-    start-of-requires
+    chain-begin-requires
     (next-chain .1)
     (next-chain .0)
     source-requires
@@ -126,6 +126,6 @@ first-repeat-spec =
     cast-met
     mul-met
     array-write-met
-    after-requires
+    chain-next-requires
     (passes .1)
     (passes .0))

@@ -5,24 +5,24 @@ use native.Mathlib.Omega.{arith}
 use borrow.Author.Needs.{needs}
 use denote.Ref.{now}
 use Rattle.graph.proofs.Chained.{from-small}
-use Rattle.graph.proofs.Ways.{both}
+use Rattle.theory.proofs.Rounds.{both}
 use Rattle.graph.proofs.Weighed.{LookedAt, looked-start, look-at, looked-more}
 use Rattle.graph.proofs.weigh.latest.Statement.{statement}
 use Rattle.graph.proofs.weigh.latest.Tie as tie
 
 abbrev Inv-loop : tie.InvT-loop
-Inv-loop n v arrows first next finish most₀ c₀ most c = LookedAt arrows finish v c most
+Inv-loop n arrows first next finish to most₀ c₀ most c = LookedAt arrows finish to c most
 
 abbrev μ-loop : tie.MeasureT-loop
-μ-loop n v arrows first next finish most₀ c₀ most c = c
+μ-loop n arrows first next finish to most₀ c₀ most c = c
 
-start-of-requires : tie.Need-start-of-requires Inv-loop μ-loop
-start-of-requires c κs = c .pre .0 .1
+chain-begin-requires : tie.Need-chain-begin-requires Inv-loop μ-loop
+chain-begin-requires c κs = c .pre .0 .1
 
 loop-holds : tie.Need-loop-holds Inv-loop μ-loop
 loop-holds c =
     let c-pre = c .before .pre in
-    rw (c .start-of .ensures) (looked-start _ _ _ _ (c-pre .1 .start (c .before .args .v) (c-pre .0 .1)))
+    rw (c .chain-begin .ensures) (looked-start _ _ _ _ (c-pre .1 .start (c .before .args .v .0) (c-pre .0 .1)))
 
 source-requires : tie.Need-source-requires Inv-loop μ-loop
 source-requires c κs = (omega arith, c .before .loop .inv .cap)
@@ -39,8 +39,8 @@ element-copy-out-larger c =
 larger-requires : tie.Need-larger-requires Inv-loop μ-loop
 larger-requires c κs = search needs
 
-after-requires : tie.Need-after-requires Inv-loop μ-loop
-after-requires c κs =
+chain-next-requires : tie.Need-chain-next-requires Inv-loop μ-loop
+chain-next-requires c κs =
     let c-pre = c .before .before .before .before .before .before .pre in
     let c-loop = c .before .before .before .before .loop in
     (omega arith, omega (arith, c-pre .0 .0 .few, c-loop .inv .cap))
@@ -51,14 +51,14 @@ looks = both (λ c.
     let c-loop = c .before .before .before .before .before .loop in
     let c-loop-test = c .before .before .before .before .loop-test in
     let c-source = c .before .before .before .source in
-    let last = rw (← c .after .ensures) at (c-pre .1 .step (c-loop .c - 1) (look-at _ _ (c-pre .0 .0) _ _ _ _ _ (c-loop .inv) (c-loop-test .taken) refl)) in
+    let last = rw (← c .chain-next .ensures) at (c-pre .1 .step (c-loop .c - 1) (look-at _ _ (c-pre .0 .0) _ _ _ _ _ (c-loop .inv) (c-loop-test .taken) refl)) in
     (looked-more _ _ (c-pre .0 .0) _ _ _ _ _ (c-loop .inv) (c-loop-test .taken) (c-source .ensures .0) _ _ (c .before .larger .ensures) last, omega (arith, last .within)))
 
 returns : tie.Need-returns Inv-loop μ-loop
 returns c =
     let c-args = c .before .before .before .args in
     let c-loop = c .before .loop in
-    let r : LookedAt (now (c-args .arrows)) (now (c-args .finish)) (c-args .v) 0 (c-loop .most) = rw (c .loop-test .left) at (c-loop .inv) in r .latest
+    let r : LookedAt (now (c-args .arrows)) (now (c-args .finish)) (c-args .v .0) 0 (c-loop .most) = rw (c .loop-test .left) at (c-loop .inv) in r .latest
 
 pub latest-spec : {M : Type 1} → statement M
 latest-spec =
@@ -66,13 +66,13 @@ latest-spec =
     (tie.spec
     Inv-loop
     μ-loop
-    start-of-requires
+    chain-begin-requires
     loop-holds
     source-requires
     mul-larger
     element-copy-out-larger
     larger-requires
-    after-requires
+    chain-next-requires
     (looks .1)
     (looks .0)
     returns)

@@ -18,23 +18,23 @@ abbrev μ-loop : tie.MeasureT-loop
 place-in : (c : tie.In-loop Inv-loop μ-loop) → c .before .loop .j < 256
 place-in c = omega (arith, c .loop-test .taken, c .before .before .before .pre .0 .0 .subtasks)
 
-entry-in : (c : tie.After-wide Inv-loop μ-loop) → c .wide .result < 257
+entry-in : (c : tie.After-usize-from-u16 Inv-loop μ-loop) → c .usize-from-u16 .result < 257
 entry-in c =
     let c-pre = c .before .before .before .before .before .pre in
     let c-loop = c .before .before .before .loop in
-    entry-small _ _ _ (c-pre .0 .0) (c-pre .1 .1) _ _ _ (c-loop .inv) (c .before .before .loop-test .taken) _ (c .wide .ensures .0)
+    entry-small _ _ _ (c-pre .0 .0) (c-pre .1 .1) _ _ _ (c-loop .inv) (c .before .before .loop-test .taken) _ (c .usize-from-u16 .ensures .0)
 
 loop-holds : tie.Need-loop-holds Inv-loop μ-loop
 loop-holds c = weighed-start _ _ _
 
-mul-wide : tie.Need-mul-wide Inv-loop μ-loop
-mul-wide c = omega (arith, place-in c)
+mul-usize-from-u16 : tie.Need-mul-usize-from-u16 Inv-loop μ-loop
+mul-usize-from-u16 c = omega (arith, place-in c)
 
-element-copy-out-wide : tie.Need-element-copy-out-wide Inv-loop μ-loop
-element-copy-out-wide c = place-in c
+element-copy-out-usize-from-u16 : tie.Need-element-copy-out-usize-from-u16 Inv-loop μ-loop
+element-copy-out-usize-from-u16 c = place-in c
 
-wide-requires : tie.Need-wide-requires Inv-loop μ-loop
-wide-requires c κs = search needs
+usize-from-u16-requires : tie.Need-usize-from-u16-requires Inv-loop μ-loop
+usize-from-u16-requires c κs = search needs
 
 latest-requires : tie.Need-latest-requires Inv-loop μ-loop
 latest-requires c κs =
@@ -49,8 +49,8 @@ add-f c =
     let c-pre = c .before .before .before .before .before .before .before .before .pre in
     let c-loop = c .before .before .before .before .before .before .loop in
     let c-loop-test = c .before .before .before .before .before .loop-test in
-    let c-wide = c .before .before .before .wide in
-    omega (arith, time-fits _ _ _ (c-pre .0 .0) (c-pre .1 .1) _ _ _ (c-loop .inv) (c-loop-test .taken) _ (c-wide .ensures .0) _ (c .before .latest .ensures), c .time-of .ensures .2)
+    let c-usize-from-u16 = c .before .before .before .usize-from-u16 in
+    omega (arith, time-fits _ _ _ (c-pre .0 .0) (c-pre .1 .1) _ _ _ (c-loop .inv) (c-loop-test .taken) _ (c-usize-from-u16 .ensures .0) _ (c .before .latest .ensures), c .time-of .ensures .small)
 
 mul-finish : tie.Need-mul-finish Inv-loop μ-loop
 mul-finish c = omega (arith, entry-in (c .before .before .before))
@@ -72,10 +72,10 @@ loop-again c =
     let c-pre = c .before .before .before .before .before .before .before .before .before .pre in
     let c-loop = c .before .before .before .before .before .before .before .loop in
     let c-loop-test = c .before .before .before .before .before .before .loop-test in
-    let c-wide = c .before .before .before .before .wide in
+    let c-usize-from-u16 = c .before .before .before .before .usize-from-u16 in
     let c-latest = c .before .before .latest in
     let c-time-of = c .before .time-of in
-    weighed-more _ _ _ (c-pre .0 .0) (c-pre .1 .1) _ _ _ (c-loop .inv) (c-loop-test .taken) _ (c-wide .ensures .0) _ (c-latest .ensures) _ (c-time-of .ensures .0) (c-time-of .ensures .2) _ (c .larger .ensures)
+    weighed-more _ _ _ (c-pre .0 .0) (c-pre .1 .1) _ _ _ (c-loop .inv) (c-loop-test .taken) _ (c-usize-from-u16 .ensures .0) _ (c-latest .ensures) _ (c-time-of .ensures .is) (c-time-of .ensures .small) _ (c .larger .ensures)
 
 returns : tie.Need-returns Inv-loop μ-loop
 returns c =
@@ -91,9 +91,9 @@ longest-spec =
     Inv-loop
     μ-loop
     loop-holds
-    mul-wide
-    element-copy-out-wide
-    wide-requires
+    mul-usize-from-u16
+    element-copy-out-usize-from-u16
+    usize-from-u16-requires
     latest-requires
     time-of-requires
     add-f

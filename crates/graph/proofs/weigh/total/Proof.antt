@@ -1,57 +1,52 @@
 -- `total`: the sum is the total work. Assumes nothing.
-use mathlib.Core.Path.{_≡_, refl, ap, _∙_}
-use Prim.Native.Nat.{_-_, _*_, _≤_}
+use mathlib.Core.Path.{_≡_, refl, ap, sym, _∙_}
+use Prim.Native.Nat.{suc, _-_, _*_, _≤_}
 use native.Mathlib.Omega.{arith}
-use lib.ListN.{length, take}
-use borrow.Author.Needs.{needs}
-use lib.Seq.{take-all}
 use native.Mathlib.Numerals.{add-one}
+use lib.ListN.{length}
+use borrow.Author.Needs.{needs}
 use denote.Ref.{now}
+use Rattle.terms.specs.Sums.{sum}
+use Rattle.terms.specs.Graphs.{timeOf}
 use Rattle.terms.specs.Paths.{totalWork}
-use Rattle.theory.proofs.Work.{total-take}
 use Rattle.graph.proofs.weigh.total.Statement.{statement}
 use Rattle.graph.proofs.weigh.total.Tie as tie
 
 abbrev Inv-loop : tie.InvT-loop
-Inv-loop times sum₀ i₀ sum i = (i ≤ length times) × (length times ≤ 256) × (sum ≤ 65535 * i) × (sum ≡ totalWork (take i times))
+Inv-loop times c₀ i₀ c i = (i ≤ length times) × (length times ≤ 256) × (c ≤ 65535 * i) × (c ≡ sum i (λ i. timeOf times (suc i)))
 
 abbrev μ-loop : tie.MeasureT-loop
-μ-loop times sum₀ i₀ sum i = length times - i
+μ-loop times c₀ i₀ c i = length times - i
 
 loop-holds : tie.Need-loop-holds Inv-loop μ-loop
-unfolding totalWork
+unfolding sum
 loop-holds c = (omega arith, c .before .pre, omega arith, refl)
-
-mul-long : tie.Need-mul-long Inv-loop μ-loop
-mul-long c = search needs
-
-shared-slice-read-long : tie.Need-shared-slice-read-long Inv-loop μ-loop
-shared-slice-read-long c = search needs
-
-long-requires : tie.Need-long-requires Inv-loop μ-loop
-long-requires c κs = search needs
-
-add-sum : tie.Need-add-sum Inv-loop μ-loop
-add-sum c = search needs
 
 add-i : tie.Need-add-i Inv-loop μ-loop
 add-i c = search needs
 
+time-of-requires : tie.Need-time-of-requires Inv-loop μ-loop
+time-of-requires c κs = search needs
+
+add-sum : tie.Need-add-sum Inv-loop μ-loop
+add-sum c = omega (arith, c .time-of .ensures .small)
+
 loop-less : tie.Need-loop-less Inv-loop μ-loop
-loop-less c = search needs
+loop-less c = omega arith
 
 loop-again : tie.Need-loop-again Inv-loop μ-loop
+unfolding sum
 loop-again c =
-    let c-loop = c .before .before .before .loop in
-    let c-args = c .before .before .before .before .before .args in
-    let c-loop-test = c .before .before .loop-test in
-    (omega arith, omega arith, omega arith, rw (add-one (c-loop .i)) (omega (arith, total-take (now (c-args .times)) (c-loop .i) (c-loop-test .taken))))
+    let i = c .before .before .loop .i in
+    let time = c .time-of .ensures .is (record { low = omega arith; high = omega arith }) in
+    (omega arith, omega arith, omega (arith, c .time-of .ensures .small), rw (add-one i) (omega (arith, rw (add-one i) at time)))
 
 returns : tie.Need-returns Inv-loop μ-loop
+unfolding totalWork
 returns c =
     let c-loop = c .before .loop in
-    let c-args = c .before .before .before .args in
-    c-loop .inv .3 ∙ ap totalWork (take-all (c-loop .i) (now (c-args .times)) (omega arith))
+    let e : length (now (c .before .before .before .args .times)) ≡ c-loop .i = omega arith in
+    rw e (c-loop .inv .3)
 
 pub total-spec : {M : Type 1} → statement M
 total-spec =
@@ -60,11 +55,9 @@ total-spec =
     Inv-loop
     μ-loop
     loop-holds
-    mul-long
-    shared-slice-read-long
-    long-requires
-    add-sum
     add-i
+    time-of-requires
+    add-sum
     loop-less
     loop-again
     returns)

@@ -1,14 +1,14 @@
--- `place`: the walk leaves the order, or ends at a cycle. Assumes nothing.
+-- `order_subtasks`: the walk leaves the order, or ends at a cycle. Assumes nothing.
 use mathlib.Core.Path.{refl}
 use Prim.Native.Nat.{ℕ, _+_, _≤_, _<_}
 use native.Mathlib.Omega.{arith}
 use lib.ListN.{length-replicate}
 use borrow.Author.Needs.{scaled-fits}
 use lib.Dec.{lit<}
-use Rattle.graph.proofs.Ways.{both}
+use Rattle.theory.proofs.Rounds.{both}
 use Rattle.graph.proofs.Walked.{State, left, state-start, root-small, state-root, state-enter, state-end, end-small, state-home, back-small, state-back, cursor-small, state-skip, room-for, state-on, state-cycle}
-use Rattle.graph.proofs.order.place.Statement.{statement}
-use Rattle.graph.proofs.order.place.Tie as tie
+use Rattle.graph.proofs.order.order_subtasks.Statement.{statement}
+use Rattle.graph.proofs.order.order_subtasks.Tie as tie
 
 abbrev Inv-loop : tie.InvT-loop
 Inv-loop n arrows first next order₀ mark₀ stack₀ depth₀ placed₀ root₀ u₀ c₀ order mark stack depth placed root u c = State n arrows order mark stack depth placed root u c
@@ -17,7 +17,7 @@ abbrev μ-loop : tie.MeasureT-loop
 μ-loop n arrows first next order₀ mark₀ stack₀ depth₀ placed₀ root₀ u₀ c₀ order mark stack depth placed root u c = left n arrows mark root c
 
 -- the numbers at each place are small: at an arrow from p
-looks : (c : tie.After-source Inv-loop μ-loop) → (c .source .result < 257) × (c .before .before .loop .c ≤ 2048)
+looks : (c : tie.After-source Inv-loop μ-loop) → (c .source .result .0 < 257) × (c .before .before .loop .c ≤ 2048)
 looks c = cursor-small _ _ _ _ (c .before .before .before .pre .0) (c .before .before .before .pre .1 .0) _ _ _ _ _ _ _ _ (c .before .before .loop .inv) (c .before .if1 .taken) _ (c .source .ensures .0)
 
 -- where p is new
@@ -31,10 +31,10 @@ ends : (c : tie.Then4 Inv-loop μ-loop) → (c .before .before .loop .u < 257) �
 ends c = end-small _ _ _ _ (c .before .before .before .pre .0) (c .before .before .before .pre .1 .0) _ _ _ _ _ _ _ _ (c .before .before .loop .inv) (c .before .if1 .left) (c .if4 .taken)
 
 -- on the way back
-backs : (c : tie.After-wide Inv-loop μ-loop) → (1 ≤ c .wide .result) × (c .wide .result ≤ 2048)
+backs : (c : tie.After-usize-from-u16 Inv-loop μ-loop) → (1 ≤ c .usize-from-u16 .result) × (c .usize-from-u16 .result ≤ 2048)
 backs c =
     let c-pre = c .before .before .before .before .before .pre in
-    back-small _ _ _ _ (c-pre .0) (c-pre .1 .0) _ _ _ _ _ _ _ _ (c .before .before .before .before .loop .inv) (c .before .before .before .if1 .left) (c .before .before .if4 .taken) (c .before .if5 .left) _ _ (c .wide .ensures .0) refl
+    back-small _ _ _ _ (c-pre .0) (c-pre .1 .0) _ _ _ _ _ _ _ _ (c .before .before .before .before .loop .inv) (c .before .before .before .if1 .left) (c .before .before .if4 .taken) (c .before .if5 .left) _ _ (c .usize-from-u16 .ensures .0) refl
 
 -- at the next root
 roots : (c : tie.Else6 Inv-loop μ-loop) → c .before .before .before .loop .root + 1 < 257
@@ -56,8 +56,8 @@ mul-m c = scaled-fits _ 257 2 (looks c .0) (lit< tt)
 array-read-m : tie.Need-array-read-m Inv-loop μ-loop
 array-read-m c = looks c .0
 
-after-requires : tie.Need-after-requires Inv-loop μ-loop
-after-requires c κs = (omega arith, looks (c .before) .1)
+chain-next-requires : tie.Need-chain-next-requires Inv-loop μ-loop
+chain-next-requires c κs = (omega arith, looks (c .before) .1)
 
 skips : tie.Need-loop-again Inv-loop μ-loop × tie.Need-loop-less Inv-loop μ-loop
 skips = both (λ c.
@@ -65,7 +65,7 @@ skips = both (λ c.
     let c-loop = c .before .before .before .before .loop in
     let c-if1 = c .before .before .before .if1 in
     let c-source = c .before .before .source in
-    rw (c .after .ensures) (state-skip _ _ _ _ (c-pre .0) (c-pre .1 .0) _ _ _ _ _ _ _ _ (c-loop .inv) (c-if1 .taken) _ (c-source .ensures .0) (c .before .if2 .taken)))
+    rw (c .chain-next .ensures) (state-skip _ _ _ _ (c-pre .0) (c-pre .1 .0) _ _ _ _ _ _ _ _ (c-loop .inv) (c-if1 .taken) _ (c-source .ensures .0) (c .before .if2 .taken)))
 
 cast-stack : tie.Need-cast-stack Inv-loop μ-loop
 cast-stack c = omega (arith, looks (c .before .before))
@@ -91,8 +91,8 @@ mul-mark c = scaled-fits _ 257 2 (looks (c .before .before) .0) (lit< tt)
 array-write-mark : tie.Need-array-write-mark Inv-loop μ-loop
 array-write-mark c = looks (c .before .before) .0
 
-start-of-requires : tie.Need-start-of-requires Inv-loop μ-loop
-start-of-requires c κs = looks (c .before .before) .0
+chain-begin-requires : tie.Need-chain-begin-requires Inv-loop μ-loop
+chain-begin-requires c κs = looks (c .before .before) .0
 
 goes-on : tie.Need-loop-again-2 Inv-loop μ-loop × tie.Need-loop-less-2 Inv-loop μ-loop
 goes-on = both (λ c.
@@ -100,7 +100,7 @@ goes-on = both (λ c.
     let c-loop = c .before .before .before .before .before .loop in
     let c-if1 = c .before .before .before .before .if1 in
     let c-source = c .before .before .before .source in
-    rw (c .start-of .ensures) (state-on _ _ _ _ (c-pre .0) (c-pre .1 .0) _ _ _ _ _ _ _ _ (c-loop .inv) (c-if1 .taken) _ (c-source .ensures .0) (c .before .if3 .taken)))
+    rw (c .chain-begin .ensures) (state-on _ _ _ _ (c-pre .0) (c-pre .1 .0) _ _ _ _ _ _ _ _ (c-loop .inv) (c-if1 .taken) _ (c-source .ensures .0) (c .before .if3 .taken)))
 
 returns : tie.Need-returns Inv-loop μ-loop
 returns c =
@@ -138,14 +138,14 @@ comes-home = both (λ c.
 sub-depth : tie.Need-sub-depth Inv-loop μ-loop
 sub-depth c = omega arith
 
-mul-wide : tie.Need-mul-wide Inv-loop μ-loop
-mul-wide c = omega (arith, ends (c .before))
+mul-usize-from-u16 : tie.Need-mul-usize-from-u16 Inv-loop μ-loop
+mul-usize-from-u16 c = omega (arith, ends (c .before))
 
-array-read-wide : tie.Need-array-read-wide Inv-loop μ-loop
-array-read-wide c = omega (arith, ends (c .before))
+array-read-usize-from-u16 : tie.Need-array-read-usize-from-u16 Inv-loop μ-loop
+array-read-usize-from-u16 c = omega (arith, ends (c .before))
 
-wide-requires : tie.Need-wide-requires Inv-loop μ-loop
-wide-requires c κs = tt
+usize-from-u16-requires : tie.Need-usize-from-u16-requires Inv-loop μ-loop
+usize-from-u16-requires c κs = tt
 
 sub-to-at : tie.Need-sub-to-at Inv-loop μ-loop
 sub-to-at c = backs c .0
@@ -153,8 +153,8 @@ sub-to-at c = backs c .0
 to-at-requires : tie.Need-to-at-requires Inv-loop μ-loop
 to-at-requires c κs = tt
 
-after-requires-2 : tie.Need-after-requires-2 Inv-loop μ-loop
-after-requires-2 c κs = backs (c .before)
+chain-next-requires-2 : tie.Need-chain-next-requires-2 Inv-loop μ-loop
+chain-next-requires-2 c κs = backs (c .before)
 
 goes-back : tie.Need-loop-again-4 Inv-loop μ-loop × tie.Need-loop-less-4 Inv-loop μ-loop
 goes-back = both (λ c.
@@ -163,8 +163,8 @@ goes-back = both (λ c.
     let c-if1 = c .before .before .before .before .before .if1 in
     let c-if4 = c .before .before .before .before .if4 in
     let c-if5 = c .before .before .before .if5 in
-    let c-wide = c .before .before .wide in
-    rw (c .after2 .ensures) (state-back _ _ _ _ (c-pre .0) (c-pre .1 .0) _ _ _ _ _ _ _ _ (c-loop .inv) (c-if1 .left) (c-if4 .taken) (c-if5 .left) _ _ (c-wide .ensures .0) (c .before .to-at .ensures .0)))
+    let c-usize-from-u16 = c .before .before .usize-from-u16 in
+    rw (c .chain-next2 .ensures) (state-back _ _ _ _ (c-pre .0) (c-pre .1 .0) _ _ _ _ _ _ _ _ (c-loop .inv) (c-if1 .left) (c-if4 .taken) (c-if5 .left) _ _ (c-usize-from-u16 .ensures .0) (c .before .to-at .ensures .0)))
 
 returns-2 : tie.Need-returns-2 Inv-loop μ-loop
 returns-2 c =
@@ -188,8 +188,8 @@ mul-mark-3 c = scaled-fits _ 257 2 (roots (c .before)) (lit< tt)
 array-write-mark-3 : tie.Need-array-write-mark-3 Inv-loop μ-loop
 array-write-mark-3 c = roots (c .before)
 
-start-of-requires-2 : tie.Need-start-of-requires-2 Inv-loop μ-loop
-start-of-requires-2 c κs = roots (c .before)
+chain-begin-requires-2 : tie.Need-chain-begin-requires-2 Inv-loop μ-loop
+chain-begin-requires-2 c κs = roots (c .before)
 
 enters : tie.Need-loop-again-5 Inv-loop μ-loop × tie.Need-loop-less-5 Inv-loop μ-loop
 enters = both (λ c.
@@ -198,7 +198,7 @@ enters = both (λ c.
     let c-if1 = c .before .before .before .before .if1 in
     let c-if4 = c .before .before .before .if4 in
     let c-if6 = c .before .before .if6 in
-    rw (c .start-of2 .ensures) (state-enter _ _ _ _ (c-pre .0) (c-pre .1 .0) _ _ _ _ _ _ _ _ (c-loop .inv) (c-if1 .left) (c-if4 .left) (c-if6 .left) (c .before .if7 .taken)))
+    rw (c .chain-begin2 .ensures) (state-enter _ _ _ _ (c-pre .0) (c-pre .1 .0) _ _ _ _ _ _ _ _ (c-loop .inv) (c-if1 .left) (c-if4 .left) (c-if6 .left) (c .before .if7 .taken)))
 
 next-root : tie.Need-loop-again-6 Inv-loop μ-loop × tie.Need-loop-less-6 Inv-loop μ-loop
 next-root = both (λ c.
@@ -208,8 +208,8 @@ next-root = both (λ c.
     let c-if4 = c .before .before .if4 in
     state-root _ _ _ _ (c-pre .0) (c-pre .1 .0) _ _ _ _ _ _ _ _ (c-loop .inv) (c-if1 .left) (c-if4 .left) (c .before .if6 .left) (c .if7 .left))
 
-pub place-spec : {M : Type 1} → statement M
-place-spec =
+pub order-subtasks-spec : {M : Type 1} → statement M
+order-subtasks-spec =
     tie.close
     (tie.spec
     Inv-loop
@@ -218,7 +218,7 @@ place-spec =
     source-requires
     mul-m
     array-read-m
-    after-requires
+    chain-next-requires
     (skips .1)
     (skips .0)
     cast-stack
@@ -229,7 +229,7 @@ place-spec =
     cast-mark
     mul-mark
     array-write-mark
-    start-of-requires
+    chain-begin-requires
     (goes-on .1)
     (goes-on .0)
     returns
@@ -242,12 +242,12 @@ place-spec =
     (comes-home .1)
     (comes-home .0)
     sub-depth
-    mul-wide
-    array-read-wide
-    wide-requires
+    mul-usize-from-u16
+    array-read-usize-from-u16
+    usize-from-u16-requires
     sub-to-at
     to-at-requires
-    after-requires-2
+    chain-next-requires-2
     (goes-back .1)
     (goes-back .0)
     returns-2
@@ -256,7 +256,7 @@ place-spec =
     array-read-if7
     mul-mark-3
     array-write-mark-3
-    start-of-requires-2
+    chain-begin-requires-2
     (enters .1)
     (enters .0)
     (next-root .1)
