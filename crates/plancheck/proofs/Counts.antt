@@ -2,7 +2,7 @@
 use mathlib.Core.Path.{_≡_, refl, sym, ap, _∙_}
 use mathlib.Core.Logic.{_≢_, by-cases, Dec·and}
 use mathlib.Core.List.{List}
-use Prim.Native.Nat.{ℕ, suc, _+_, _≤_, _<_}
+use Prim.Native.Nat.{ℕ, suc, _+_, _-_, _≤_, _<_}
 use native.Mathlib.Numerals.{add-one}
 use native.Mathlib.Omega.{arith}
 use native.Mathlib.Decide.{decLe, decLt, ℕ-discrete}
@@ -74,28 +74,28 @@ module _ (times starts ready : List ℕ) (M : ℕ) where
       later = λ i a. absurd (omega (arith, a .low, a .high));
     }
 
-  module _ {i found e : ℕ} (h : Earliest times starts ready M i found) (q : e ≡ finishOf times starts (i + 1)) where
-    pub earliest-stays : found ≤ e → Earliest times starts ready M (i + 1) found
+  module _ {j found e : ℕ} (h : Earliest times starts ready M (j - 1) found) (q : e ≡ finishOf times starts j) where
+    pub earliest-stays : found ≤ e → Earliest times starts ready M j found
     earliest-stays l = record {
       fits = h .fits;
       holds = h .holds;
       first = h .first;
-      later = λ k a j s d. by-cases (ℕ-discrete k (i + 1)) (λ c. rw c (omega (arith, q, l))) (λ c. h .later k (record { low = a .low; high = omega (arith, a .high, c) }) j s d);
+      later = λ k a x s d. by-cases (ℕ-discrete k j) (λ c. rw c (omega (arith, q, l))) (λ c. h .later k (record { low = a .low; high = omega (arith, a .high, c) }) x s d);
     }
 
     module _ {r : ℕ} (f : FirstSubtask (length times) (Idles times starts ready M e) r) where
-      pub earliest-moves : r ≢ 0 → e < found → Earliest times starts ready M (i + 1) e
+      pub earliest-moves : r ≢ 0 → e < found → Earliest times starts ready M j e
       earliest-moves n l = let x = first-is (Idles times starts ready M e) f n in record {
         fits = omega (arith, h .fits, l);
         holds = λ _. (r, x .0, x .1);
         first = λ j s d. omega (arith, h .first j s d, l);
-        later = λ k a j s d. by-cases (ℕ-discrete k (i + 1)) (λ c. rw c (omega (arith, q))) (λ c. omega (arith, h .later k (record { low = a .low; high = omega (arith, a .high, c) }) j s d, l));
+        later = λ k a x s d. by-cases (ℕ-discrete k j) (λ c. rw c (omega (arith, q))) (λ c. omega (arith, h .later k (record { low = a .low; high = omega (arith, a .high, c) }) x s d, l));
       }
 
-      pub earliest-skips : r ≡ 0 → Earliest times starts ready M (i + 1) found
+      pub earliest-skips : r ≡ 0 → Earliest times starts ready M j found
       earliest-skips z = record {
         fits = h .fits;
         holds = h .holds;
         first = h .first;
-        later = λ k a j s d. by-cases (ℕ-discrete k (i + 1)) (λ c. absurd (first-no (Idles times starts ready M e) f z j s (rw (ap (finishOf times starts) c ∙ sym q) at d))) (λ c. h .later k (record { low = a .low; high = omega (arith, a .high, c) }) j s d);
+        later = λ k a x s d. by-cases (ℕ-discrete k j) (λ c. absurd (first-no (Idles times starts ready M e) f z x s (rw (ap (finishOf times starts) c ∙ sym q) at d))) (λ c. h .later k (record { low = a .low; high = omega (arith, a .high, c) }) x s d);
       }

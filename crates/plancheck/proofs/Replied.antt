@@ -17,8 +17,9 @@ use Rattle.terms.specs.declared.PlanEnd.the-variants.{Ends, Refused}
 use Rattle.theory.specs.Sound.{SoundGraph}
 use Rattle.theory.proofs.Answers.{refused-first, begin, past-all, stop-with}
 use Rattle.theory.proofs.Accepted.{accepted-on, busy-plan}
-use Rattle.forms.specs.Forms.{entries, lastEnd}
+use Rattle.forms.specs.Forms.{entries, lastEnd, IsSplit}
 use Rattle.forms.proofs.TwoRows.{entries-ends}
+use Rattle.forms.proofs.Tables.{split-entries}
 use Rattle.plancheck.specs.Tables.{ChecksTable}
 use Rattle.plancheck.specs.Known.{Given}
 
@@ -35,11 +36,10 @@ module _ (times : List ℕ) (arrows : List (List ℕ)) (M : ℕ) (table : List E
     refused-12 m h e plan l t =
         stop-with (past-all (onRows times arrows M) (begin (checkRows times arrows M plan)) (accepted-on times arrows M g m)) (λ x. h (sym l ∙ x)) e
 
-    -- the rest, by the two rows of the table
-    pub checked-rows : (r : PlanEnd) (procs starts : List ℕ) → n ≡ length times → entries procs starts ≡ take n table
-        → IsChecked times arrows M (entries procs starts) r → ChecksTable times arrows M table n r
+    -- the rest, of the table's first entries
+    pub checked-front : (r : PlanEnd) → n ≡ length times → IsChecked times arrows M (take (length times) table) r → ChecksTable times arrows M table n r
     unfolding ChecksTable
-    checked-rows r procs starts e t c plan l h = rw (h (omega (arith, g .count .high)) ∙ sym t) c
+    checked-front r e c plan l h = rw (h (omega (arith, g .count .high)), e) c
 
 module _ {times : List ℕ} {arrows : List (List ℕ)} {M : ℕ} {procs starts : List ℕ} (given : Given times arrows M procs starts) {E : ℕ}
     (last : E ≡ lastEnd times starts (min (length times) (length starts))) (a : Accepted (checkRows times arrows M (entries procs starts))) where
@@ -55,3 +55,17 @@ module _ {times : List ℕ} {arrows : List (List ℕ)} {M : ℕ} {procs starts :
       let e = ends-as .1 .reached in
       let b = busy-plan times arrows M (entries procs starts) a .1 in
       omega (arith, e .2, b .sound .starts (e .0) (e .1), short (e .0) (e .1))
+
+-- the two rows of a table's front
+module _ {times : List ℕ} {arrows : List (List ℕ)} {M : ℕ} {table : List Entry} {procs starts procs′ starts′ : List ℕ} (given : Given times arrows M procs starts)
+    (parts : IsSplit table procs starts procs′ starts′) where
+  pub split-given : Given times arrows M procs′ starts′
+  split-given = record {
+    graph = given .graph;
+    processors = given .processors;
+    long-procs = parts .long-processors ∙ given .long-procs;
+    long-starts = parts .long-starts ∙ given .long-starts;
+  }
+
+  pub split-checked : (r : PlanEnd) → length table ≡ 256 → IsChecked times arrows M (entries procs′ starts′) r → IsChecked times arrows M (take (length times) table) r
+  split-checked r t c = rw (split-entries (length times) t (given .graph .count .high) (given .long-procs) (given .long-starts) parts) at c

@@ -21,6 +21,7 @@ use terms::Entry;
 use terms::PlanEnd;
 use terms::Subtask;
 use terms::refuse;
+ghost use lib.ListN.{length, take};
 ghost use Rattle.terms.specs.Graphs.{Among};
 ghost use Rattle.terms.specs.Refusals.{checkRows};
 ghost use Rattle.terms.specs.Replies.{IsCheck, IsChecked};
@@ -36,13 +37,7 @@ struct Pair {
 }
 
 // 13 to 17 of a plan in two rows, where none of 1 to 8 and 12 holds.
-fn check_placing(
-    times: &[u16],
-    arrows: &[[u16; 2]],
-    m: u32,
-    procs: &[u8],
-    starts: &[u32],
-) -> Check
+fn check_placing(times: &[u16], arrows: &[[u16; 2]], m: u32, procs: &[u8], starts: &[u32]) -> Check
     requires { ⌜ Given (now times) (now arrows) m (now procs) (now starts) ⌝ }
     ensures { λ r. ⌜ IsCheck (checkRows (now (times .entry)) (now (arrows .entry)) m (entries (now (procs .entry)) (now (starts .entry)))) r ⌝ }
 {
@@ -88,6 +83,22 @@ fn check_rows(times: &[u16], arrows: &[[u16; 2]], m: u32, procs: &[u8], starts: 
     }
 }
 
+// 13 to 17 of the plan that a table holds in its first entries, or its end; the two rows have one place for each subtask.
+fn check_split(
+    times: &[u16],
+    arrows: &[[u16; 2]],
+    m: u32,
+    table: [Entry; 256],
+    procs: &mut [u8],
+    starts: &mut [u32],
+) -> PlanEnd
+    requires { ⌜ Given (now times) (now arrows) m (now procs) (now starts) ⌝ }
+    ensures { λ r. ⌜ IsChecked (now (times .entry)) (now (arrows .entry)) m (take (length (now (times .entry))) table) r ⌝ }
+{
+    split(table, procs, starts);
+    check_rows(times, arrows, m, procs, starts)
+}
+
 // 12 to 17 of a plan of an accepted graph, or its end.
 fn check_entries(
     times: &[u16],
@@ -104,8 +115,7 @@ fn check_entries(
     }
     let mut procs = [0u8; 256];
     let mut starts = [0u32; 256];
-    split(table, &mut procs[..n], &mut starts[..n]);
-    check_rows(times, arrows, m, &procs[..n], &starts[..n])
+    check_split(times, arrows, m, table, &mut procs[..n], &mut starts[..n])
 }
 
 // The plan check of a plan of n entries, which the table holds where they are at most 256: the plan's end, or the refusal.

@@ -3,40 +3,36 @@ use Prim.Native.Nat.{_-_}
 use native.Mathlib.Omega.{arith}
 use borrow.Author.Needs.{needs}
 use Rattle.terms.specs.Graphs.{timeOf}
-use Rattle.plancheck.proofs.Replied.{refused-as, end-small, ends-as}
+use Rattle.terms.specs.Replies.{IsCheck, IsChecked}
+use Rattle.plancheck.proofs.Replied.{ends-as, end-small}
 use Rattle.plancheck.proofs.check_rows.Statement.{statement}
 use Rattle.plancheck.proofs.check_rows.Tie as tie
 
-ask-requires : tie.Need-ask-requires
-ask-requires c κs = search needs
+check-placing-requires : tie.Need-check-placing-requires
+check-placing-requires c κs = search needs
 
-refused-requires : tie.Need-refused-requires
-refused-requires c κs = search needs
+enum-known-refusal : tie.Need-enum-known-refusal
+enum-known-refusal c = search needs
 
-returns : tie.Need-returns
-returns c =
-    let c-ask = c .before .before .ask in
-    refused-as _ _ _ _ _ _ (c-ask .ensures) (c .before .if1 .taken) (c .refused .ensures)
+enum-told : tie.Need-enum-told
+enum-told c = search needs
 
 last-end-requires : tie.Need-last-end-requires
 last-end-requires c κs = search needs
 
 cast-end : tie.Need-cast-end
-unfolding timeOf
+unfolding IsCheck timeOf
 cast-end c =
-    let c-pre = c .before .before .before .before .before .before .pre in
-    let c-ask = c .before .before .ask in
-    let c-shared-slice-known = c .before .before .before .before .before .shared-slice-known in
-    let small = end-small _ _ _ _ _ (c-pre) _ (c-ask .ensures) (c .before .if1 .left) (λ j s. omega (arith, c-shared-slice-known .given (j - 1))) in omega (arith, c .last-end .ensures)
+    let a = rw (c .before .enum-told .given .1) at (c .before .before .before .check-placing .ensures) in
+    omega (arith, end-small (c .before .before .before .before .before .before .before .pre) (c .last-end .ensures) a (λ j s. omega (arith, c .before .before .before .before .before .before .shared-slice-known .given (j - 1))))
+
+returns : tie.Need-returns
+unfolding IsCheck IsChecked
+returns c = rw (c .before .refusal .given .1) at (c .before .before .before .check-placing .ensures)
 
 returns-2 : tie.Need-returns-2
-returns-2 c =
-    let c-pre = c .before .before .before .before .before .before .pre in
-    let c-ask = c .before .before .ask in
-    let c-if1 = c .before .if1 in
-    ends-as _ _ _ _ _ (c-pre) _ (c-ask .ensures) (c-if1 .left) _ (c .last-end .ensures)
+unfolding IsCheck
+returns-2 c = ends-as (c .before .before .before .before .before .before .before .pre) (c .last-end .ensures) (rw (c .before .enum-told .given .1) at (c .before .before .before .check-placing .ensures))
 
 pub check-rows-spec : {M : Type 1} → statement M
-check-rows-spec =
-    tie.close
-    (tie.spec ask-requires refused-requires returns last-end-requires cast-end returns-2)
+check-rows-spec = tie.close (tie.spec check-placing-requires enum-known-refusal enum-told last-end-requires cast-end returns returns-2)

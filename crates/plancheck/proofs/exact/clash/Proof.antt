@@ -33,7 +33,7 @@ returns-3 c = λ h. omega (arith, h .right)
 
 returns-4 : tie.Need-returns-4
 returns-4 c =
-    let c-pre = c .before .before .before .before .before .before .before .before .before .before .before .before .pre in
+    let c-pre = c .before .before .before .before .before .before .before .before .before .before .before .before .before .before .pre in
     record { after = c-pre .0 .2; same = omega arith; left = omega arith; right = omega arith }
 
 pub clash-spec : {M : Type 1} → statement M

@@ -4,9 +4,6 @@ use Rattle.plancheck.proofs.Counts.{earliest-stays, earliest-moves, ear
 use Rattle.plancheck.proofs.exact.earlier_idle.Statement.{statement}
 use Rattle.plancheck.proofs.exact.earlier_idle.Tie as tie
 
-add-end-of : tie.Need-add-end-of
-add-end-of c = search needs
-
 end-of-requires : tie.Need-end-of-requires
 end-of-requires c κs =
     let c-pre = c .before .before .pre in
@@ -22,17 +19,17 @@ first-idle-requires c κs = search needs
 
 returns-2 : tie.Need-returns-2
 returns-2 c =
-    let c-pre = c .before .before .before .before .before .before .pre in
-    let c-end-of = c .before .before .before .end-of in
-    let c-if1 = c .before .before .if1 in
-    earliest-moves _ _ _ _ (c-pre .1) (c-end-of .ensures) (c .before .first-idle .ensures) (c .if2 .taken) (c-if1 .left)
+    let c-pre = c .before .before .before .before .before .before .before .pre in
+    let c-end-of = c .before .before .before .before .end-of in
+    let c-if1 = c .before .before .before .if1 in
+    earliest-moves _ _ _ _ (c-pre .1) (c-end-of .ensures) (c .before .before .first-idle .ensures) (c .if2 .taken) (c-if1 .left)
 
 returns-3 : tie.Need-returns-3
 returns-3 c =
-    let c-pre = c .before .before .before .before .before .before .pre in
-    let c-end-of = c .before .before .before .end-of in
-    earliest-skips _ _ _ _ (c-pre .1) (c-end-of .ensures) (c .before .first-idle .ensures) (c .if2 .left)
+    let c-pre = c .before .before .before .before .before .before .before .pre in
+    let c-end-of = c .before .before .before .before .end-of in
+    earliest-skips _ _ _ _ (c-pre .1) (c-end-of .ensures) (c .before .before .first-idle .ensures) (c .if2 .left)
 
 pub earlier-idle-spec : {M : Type 1} → statement M
 earlier-idle-spec =
-    tie.close (tie.spec add-end-of end-of-requires returns first-idle-requires returns-2 returns-3)
+    tie.close (tie.spec end-of-requires returns first-idle-requires returns-2 returns-3)

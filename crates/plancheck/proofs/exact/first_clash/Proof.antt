@@ -12,7 +12,7 @@ use Rattle.plancheck.proofs.exact.first_clash.Statement.{statement}
 use Rattle.plancheck.proofs.exact.first_clash.Tie as tie
 
 abbrev Inv-loop : tie.InvT-loop
-Inv-loop times procs starts i j₀ j = (j ≤ length times) × (i ≤ j) × NoneTo (Clash times procs starts i) j
+Inv-loop times procs starts i j₀ j = (j ≤ length times) × (i .0 ≤ j) × NoneTo (Clash times procs starts (i .0)) j
 
 abbrev μ-loop : tie.MeasureT-loop
 μ-loop times procs starts i j₀ j = length times - j
@@ -33,7 +33,7 @@ returns c =
     let c-loop-test = c .before .before .loop-test in
     let c-loop = c .before .before .before .loop in
     let c-args = c .before .before .before .before .before .before .before .args in
-    first-here _ _ _ (c-loop-test .taken) (c-loop .inv .2) (said {procs = Clash (now (c-args .times)) (now (c-args .procs)) (now (c-args .starts)) (c-args .i) (c-loop .j + 1)} (c .if1 .taken) (c .before .clash .ensures))
+    first-here _ _ _ (c-loop-test .taken) (c-loop .inv .2) (said {P = Clash (now (c-args .times)) (now (c-args .procs)) (now (c-args .starts)) (c-args .i .0) (c-loop .j + 1)} (c .if1 .taken) (c .before .clash .ensures))
 
 loop-less : tie.Need-loop-less Inv-loop μ-loop
 loop-less c = search needs
@@ -42,7 +42,7 @@ loop-again : tie.Need-loop-again Inv-loop μ-loop
 loop-again c =
     let c-loop = c .before .before .before .loop in
     let c-args = c .before .before .before .before .before .before .before .args in
-    (omega arith, omega arith, below-more _ _ (c-loop .inv .2) (unsaid {procs = Clash (now (c-args .times)) (now (c-args .procs)) (now (c-args .starts)) (c-args .i) (c-loop .j + 1)} (c .if1 .left) (c .before .clash .ensures)))
+    (omega arith, omega arith, below-more _ _ (c-loop .inv .2) (unsaid {P = Clash (now (c-args .times)) (now (c-args .procs)) (now (c-args .starts)) (c-args .i .0) (c-loop .j + 1)} (c .if1 .left) (c .before .clash .ensures)))
 
 returns-2 : tie.Need-returns-2 Inv-loop μ-loop
 returns-2 c =

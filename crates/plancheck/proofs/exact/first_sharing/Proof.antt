@@ -29,17 +29,17 @@ first-clash-requires c κs =
 
 returns : tie.Need-returns Inv-loop μ-loop
 returns c =
-    let c-loop = c .before .before .before .loop in
-    let c-loop-test = c .before .before .loop-test in
-    pair-found _ _ _ _ (c-loop .inv .1) (c-loop-test .taken) (c .before .first-clash .ensures) (c .if1 .taken)
+    let c-loop = c .before .before .before .before .loop in
+    let c-loop-test = c .before .before .before .loop-test in
+    pair-found _ _ _ _ (c-loop .inv .1) (c-loop-test .taken) (c .before .before .first-clash .ensures) (c .if1 .taken)
 
 loop-less : tie.Need-loop-less Inv-loop μ-loop
 loop-less c = search needs
 
 loop-again : tie.Need-loop-again Inv-loop μ-loop
 loop-again c =
-    let c-loop = c .before .before .before .loop in
-    (omega arith, below-more _ _ (c-loop .inv .1) (no-clashes (c .before .first-clash .ensures) (c .if1 .left)))
+    let c-loop = c .before .before .before .before .loop in
+    (omega arith, below-more _ _ (c-loop .inv .1) (no-clashes (c .before .before .first-clash .ensures) (c .if1 .left)))
 
 returns-2 : tie.Need-returns-2 Inv-loop μ-loop
 returns-2 c =

@@ -18,7 +18,7 @@ add-result c =
 
 returns : tie.Need-returns
 unfolding finishOf
-returns c = omega (arith, c .time-of .ensures .0 (c .before .before .before .before .pre .0))
+returns c = omega (arith, c .time-of .ensures .is (c .before .before .before .before .pre .0))
 
 pub end-of-spec : {M : Type 1} → statement M
 end-of-spec = tie.close (tie.spec start-of-requires time-of-requires add-result returns)

@@ -30,8 +30,8 @@ to-at-requires c κs = search needs
 
 end-of-requires : tie.Need-end-of-requires Inv-loop μ-loop
 end-of-requires c κs =
-    let c-pre = c .before .before .before .before .before .before .pre in
-    let c-loop-test = c .before .before .loop-test in
+    let c-pre = c .before .before .before .before .before .pre in
+    let c-loop-test = c .before .loop-test in
     let q = c-pre .0 .named _ (c-loop-test .taken) in (record { low = omega (arith, q .0 .low); high = omega (arith, q .0 .high) }, c-pre .1)
 
 mul-larger : tie.Need-mul-larger Inv-loop μ-loop
@@ -72,8 +72,8 @@ loop-again c =
     let c-pre = c .before .before .before .before .before .before .before .before .before .pre in
     let c-loop-test = c .before .before .before .before .before .loop-test in
     let c-loop = c .before .before .before .before .before .before .loop in
-    let c-to-at = c .before .before .before .to-at in
-    let c-end-of = c .before .before .end-of in
+    let c-to-at = c .before .before .to-at in
+    let c-end-of = c .before .before .before .end-of in
     let c-args = c .before .before .before .before .before .before .before .before .before .args in
     let c-from-at = c .before .before .before .before .from-at in
     let q = c-pre .0 .named _ (c-loop-test .taken) in (omega arith, latest-more _ _ _ _ _ _ _ _ (c-loop .inv .1) (c-to-at .ensures .0) (omega (arith, q .1 .high, c-pre .0 .count .high)) (c-end-of .ensures ∙ ap (λ (x : ℕ). finishOf (now (c-args .times)) (now (c-args .starts)) x) (c-from-at .ensures .0)) (c .larger .ensures))
@@ -92,8 +92,8 @@ latest-ends-spec =
     μ-loop
     loop-holds
     from-at-requires
-    to-at-requires
     end-of-requires
+    to-at-requires
     mul-larger
     element-copy-out-larger
     larger-requires
