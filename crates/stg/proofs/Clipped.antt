@@ -1,7 +1,7 @@
 -- A graph whose arrows are held with clipped tails is answered by 2 to 7 as the graph itself. Assumes nothing.
 use mathlib.Core.Path.{_≡_, refl, sym}
 use mathlib.Core.Logic.{_⊎_, inl, inr, ⊎-elim}
-use mathlib.Core.List.{List, [], _∷_, map}
+use mathlib.Core.List.{List, [], _∷_, _++_, map}
 use mathlib.Core.Bool.{Bool, true, false}
 use Prim.Native.Nat.{ℕ, zero, suc, _≤_, _<_}
 use native.Mathlib.Omega.{arith}
@@ -9,15 +9,17 @@ use borrow.Author.Tests.{le-leb, lt-leb, leb-true, leb-false}
 use lib.Dec.{leb}
 use lib.ListN.{length, getD, take, length-map}
 use lib.Seq.{length-take-le}
-use Rattle.terms.specs.Rows.{Row, Answered, Accepted}
-use Rattle.terms.specs.Graphs.{Among, IsSubtask, fromOf, toOf, LeadsTo, step, more}
-use Rattle.terms.specs.Refusals.{SomeArrow, NamesOutside, timeAndArrowRows, graphRows}
+use Rattle.terms.specs.Rows.{Accepted, RefusedBy, refusalOf}
+use Rattle.terms.specs.Graphs.{Among, IsSubtask, fromOf, toOf}
+use Rattle.terms.specs.Refusals.{SomeArrow, NamesOutside, countRows, timeRows, subtaskRows, sizeRows, arrowRows, timeAndArrowRows, graphRows}
 use Rattle.terms.specs.Replies.{IsCheck}
 use Rattle.terms.specs.declared.Check.{Check}
 use Rattle.terms.specs.declared.Check.the-variants as check
 use Rattle.terms.specs.declared.Refusal.{Refusal}
-use Rattle.stg.specs.Told.{clipped, hold}
-use Rattle.stg.specs.Held.{AllPairs, ChecksRead}
+use Rattle.theory.proofs.Answers.{refused-first, refused-rest, refused-tail, accepted-both, accepted-tail, begin, past-all, stop-with, holdsOf, none-holds}
+use Rattle.theory.proofs.Accepted.{read-refused, read-accepted}
+use Rattle.stg.specs.LinesRead.{clipped, hold}
+use Rattle.stg.specs.RowsRead.{AllPairs, ChecksRead}
 
 from-held : (bs : List (List ℕ)) (i : ℕ) → i < length bs → fromOf (map hold bs) i ≡ clipped (fromOf bs i)
 unfolding fromOf
@@ -79,9 +81,6 @@ module _ (us : List ℕ) (few : length us ≤ 256) (bs : List (List ℕ)) where
       })))
       (low-or-high (fromOf bs i))
 
-  same-answer : (r : ℕ) → map hold bs ≡ bs → Answered (timeAndArrowRows us (map hold bs)) r → Answered (timeAndArrowRows us bs) r
-  same-answer r e x = rw e at x
-
   module _ (p : AllPairs bs) where
     held-same : (SomeArrow (map hold bs) (NamesOutside us (map hold bs)) → ⊥) → map hold bs ≡ bs
     held-same n = same bs p (inside n)
@@ -90,80 +89,53 @@ module _ (us : List ℕ) (few : length us ≤ 256) (bs : List (List ℕ)) where
     pub unclipped : (SomeArrow bs (NamesOutside us bs) → ⊥) → map hold bs ≡ bs
     unclipped n = held-same (λ s. n (held-out s))
 
-    answered-held : (r : ℕ) → Answered (timeAndArrowRows us (map hold bs)) r → Answered (timeAndArrowRows us bs) r
-    unfolding timeAndArrowRows Answered
-    answered-held r (inl x) = inl x
-    answered-held r (inr (n2, inl (l, e))) = inr (n2, inl (omega (arith, l, length-map bs hold), e))
-    answered-held r (inr (n2, inr (n3, inl (o, e)))) = inr (n2, inr ((λ l. n3 (omega (arith, l, length-map bs hold))), inl (held-out o, e)))
-    answered-held r (inr (n2, inr (n3, inr (n4, x)))) = same-answer r (held-same n4) (inr (n2, inr (n3, inr (n4, x))))
+    same-size : sizeRows (map hold bs) ≡ sizeRows bs
+    unfolding sizeRows
+    same-size = rw (length-map bs hold) refl
+
+    -- 4 to 7: where 4 does not hold, the arrows are held as they are
+    arrows-refused : (r : Refusal) → RefusedBy (arrowRows us (map hold bs)) r → RefusedBy (arrowRows us bs) r
+    unfolding arrowRows RefusedBy
+    arrows-refused r (inl g) = inl (record { holds = held-out (g .holds); number-is = g .number-is })
+    arrows-refused r (inr (n, x)) = let y : RefusedBy (arrowRows us (map hold bs)) r = inr (n, x) in rw (held-same n) at y
+
+    arrows-accepted : Accepted (arrowRows us (map hold bs)) → Accepted (arrowRows us bs)
+    unfolding arrowRows Accepted
+    arrows-accepted (n, x) = let y : Accepted (arrowRows us (map hold bs)) = (n, x) in rw (held-same n) at y
+
+    checked-held : (r : Check) → IsCheck (timeAndArrowRows us (map hold bs)) r → IsCheck (timeAndArrowRows us bs) r
+    unfolding IsCheck timeAndArrowRows
+    checked-held check.Sound x = accepted-tail (timeRows us) _ (sizeRows bs ++ arrowRows us bs) (λ y. accepted-tail (sizeRows bs) _ _ arrows-accepted (rw same-size at y)) x
+    checked-held (check.Refused r) x =
+        refused-tail (timeRows us) _ (sizeRows bs ++ arrowRows us bs) r (λ y. refused-tail (sizeRows bs) _ _ r (arrows-refused r) (rw same-size at y)) x
 
 -- neither 3 nor 4
 pub accepted-first-rows : (us : List ℕ) (bs : List (List ℕ)) → Accepted (timeAndArrowRows us bs) → (2048 < length bs → ⊥) × (SomeArrow bs (NamesOutside us bs) → ⊥)
-unfolding timeAndArrowRows Answered
-accepted-first-rows us bs (inl (z, e)) = absurd (omega arith)
-accepted-first-rows us bs (inr (n2, inl (l, e))) = absurd (omega arith)
-accepted-first-rows us bs (inr (n2, inr (n3, inl (o, e)))) = absurd (omega arith)
-accepted-first-rows us bs (inr (n2, inr (n3, inr (n4, x)))) = (n3, n4)
-
--- more than 2,048 arrows: whether a time is 0 is asked without any arrow
-no-cycle : (j k : ℕ) → LeadsTo [] j k → ⊥
-no-cycle j k (step w) = omega (arith, w .inside)
-no-cycle j k (more l w) = omega (arith, w .inside)
-
-module _ (us : List ℕ) (bs : List (List ℕ)) where
-  many-sound : 2048 < length bs → Answered (timeAndArrowRows us []) 0 → Answered (timeAndArrowRows us bs) 3
-  unfolding timeAndArrowRows Answered
-  many-sound l (inl (z, e)) = absurd (omega arith)
-  many-sound l (inr (n2, x)) = inr (n2, inl (l, refl))
-
-  many-refused : (r : ℕ) → 1 ≤ r → Answered (timeAndArrowRows us []) r → Answered (timeAndArrowRows us bs) r
-  unfolding timeAndArrowRows Answered
-  many-refused r l (inl x) = inl x
-  many-refused r l (inr (n2, inl (m, e))) = absurd (omega (arith, m))
-  many-refused r l (inr (n2, inr (n3, inl (s, e)))) = absurd (omega (arith, s .inside))
-  many-refused r l (inr (n2, inr (n3, inr (n4, inl (s, e))))) = absurd (omega (arith, s .inside))
-  many-refused r l (inr (n2, inr (n3, inr (n4, inr (n5, inl (s, e)))))) = absurd (omega (arith, s .inside))
-  many-refused r l (inr (n2, inr (n3, inr (n4, inr (n5, inr (n6, inl (c, e))))))) = absurd (no-cycle (c .0) (c .0) (c .1))
-  many-refused r l (inr (n2, inr (n3, inr (n4, inr (n5, inr (n6, inr (n7, e))))))) = absurd (omega arith)
-
-  -- row 1 does not hold
-  counted-row : Among 1 256 (length us) → (r : ℕ) → Answered (graphRows us bs) r → Answered (timeAndArrowRows us bs) r
-  unfolding graphRows Answered
-  counted-row h r (inl (c, e)) = absurd (c h)
-  counted-row h r (inr x) = x .1
+unfolding timeAndArrowRows timeRows sizeRows arrowRows holdsOf
+accepted-first-rows us bs x = (none-holds 3 (timeAndArrowRows us bs) x, none-holds 4 (timeAndArrowRows us bs) x)
 
 -- ---- the check of what was read
 
-check-as : (rows rows′ : List Row) → ((r : ℕ) → Answered rows r → Answered rows′ r) → (r : Check) → IsCheck rows r → IsCheck rows′ r
-unfolding IsCheck
-check-as rows rows′ f check.Sound x = f 0 x
-check-as rows rows′ f (check.Refused refusal) x = record { answered = f (refusal .number) (x .answered); refuses = x .refuses }
-
 module _ (times : List ℕ) (n : ℕ) (row : List (List ℕ)) (a : ℕ) (low : 1 ≤ n) (high : n ≤ 256) (fits : n ≤ length times) where
-  counted : length (take n times) ≡ n
-  counted = length-take-le n times fits
-
   among : Among 1 256 (length (take n times))
-  among = record { low = rw counted low; high = rw counted high }
+  among = let e = length-take-le n times fits in record { low = rw e low; high = rw e high }
+
+  -- where 1 does not hold, 1 to 7 answer as 2 to 7 do
+  as-read : (arrows : List (List ℕ)) (r : Check) → IsCheck (graphRows (take n times) arrows) r → IsCheck (timeAndArrowRows (take n times) arrows) r
+  unfolding IsCheck
+  as-read arrows check.Sound x = read-accepted (take n times) arrows x
+  as-read arrows (check.Refused r) x = read-refused (take n times) arrows r among x
 
   pub checks-few : (r : Check) → a ≤ 2048 → IsCheck (graphRows (take n times) (take a row)) r → ChecksRead times n row a r
-  checks-few r m k bs s =
-      check-as _ _
-      (λ q x. answered-held (take n times) (among .high) bs (s .pairs) q (rw (s .first m) at (counted-row (take n times) (take a row) among q x)))
-      r k
+  checks-few r m k bs s = checked-held (take n times) (among .high) bs (s .pairs) r (rw (s .first m) at (as-read (take a row) r k))
 
-  pub checks-three : 2048 < a → IsCheck (graphRows (take n times) []) check.Sound → ChecksRead times n row a (check.Refused (record { number = 3 }))
-  unfolding IsCheck
-  checks-three m k bs s =
-      record {
-        answered = many-sound (take n times) bs (rw (s .many) m) (counted-row (take n times) [] among 0 k);
-        refuses = omega arith;
-      }
+  -- more than 2,048 arrows: 2, and else 3
+  pub checks-three : {r : Refusal} → 2048 < a → Accepted (subtaskRows (take n times)) → r ≡ refusalOf 3 → ChecksRead times n row a (check.Refused r)
+  unfolding IsCheck subtaskRows timeAndArrowRows sizeRows
+  checks-three m k e bs s =
+      let times-pass = accepted-both (countRows (take n times)) (timeRows (take n times)) k .1 in
+      stop-with (past-all (timeRows (take n times)) (begin (timeAndArrowRows (take n times) bs)) times-pass) (rw (s .many) m) e
 
-  pub checks-two : (refusal : Refusal) → IsCheck (graphRows (take n times) []) (check.Refused refusal) → ChecksRead times n row a (check.Refused refusal)
-  unfolding IsCheck
-  checks-two refusal k bs s =
-      record {
-        answered = many-refused (take n times) bs (refusal .number) (k .refuses) (counted-row (take n times) [] among (refusal .number) (k .answered));
-        refuses = k .refuses;
-      }
+  pub checks-two : (r : Refusal) → RefusedBy (subtaskRows (take n times)) r → ChecksRead times n row a (check.Refused r)
+  unfolding IsCheck subtaskRows countRows timeAndArrowRows Accepted
+  checks-two r k bs s = refused-first (timeRows (take n times)) _ r (refused-rest (countRows (take n times)) (timeRows (take n times)) r ((λ h. h among), tt) k)

@@ -9,14 +9,15 @@ use lib.Dec.{eqb}
 use lib.ListN.{length, getD, drop, drop-of-length-le}
 use lib.Seq.{drop-cons, drop-drop}
 use Rattle.terms.specs.Texts.{allPass, begins, onto, isBlank, isField, value, lines, fields, proper, numbers, endsHere}
+use Rattle.terms.specs.Rows.{refusalOf}
 use Rattle.terms.specs.Readings.{refuse, graph, mayFollow, trailer}
 use Rattle.text.specs.Steps.{lineSize}
 use Rattle.text.specs.Rest.{line}
 use Rattle.text.proofs.Standing.{Ended}
 use Rattle.text.proofs.Places.{size-within}
 use Rattle.text.proofs.Lines.{later-size, size-on}
-use Rattle.stg.specs.Told.{Follower}
-use Rattle.stg.proofs.Seen.{SomeNumber}
+use Rattle.stg.specs.LinesRead.{Follower}
+use Rattle.stg.proofs.NextNumbers.{SomeNumber}
 use Rattle.stg.proofs.OneLine.{lines-at}
 
 abbrev none : List (List ℕ) → Bool
@@ -85,7 +86,7 @@ module _ (text : List ℕ) (at : ℕ) (h : at < length text) where
   unfolding trailer
   trailer-more e p = rw (lines-at text at h, p .may, p .next)
 
-  pub trailer-stop : mayFollow (line (drop at text)) ≡ false → trailer (lines (drop at text)) ≡ refuse 22
+  pub trailer-stop : mayFollow (line (drop at text)) ≡ false → trailer (lines (drop at text)) ≡ refuse (refusalOf 22)
   unfolding trailer
   trailer-stop e = rw (lines-at text at h, e)
 

@@ -8,7 +8,7 @@ use borrow.Author.Tests.{le-leb, lt-leb}
 use lib.Dec.{leb}
 use lib.ListN.{length, take, drop, length-map}
 use lib.Seq.{sets, sets-eq, take-at}
-use Rattle.terms.specs.Rows.{Accepted}
+use Rattle.terms.specs.Rows.{Accepted, refusalOf}
 use Rattle.terms.specs.Graphs.{Among}
 use Rattle.terms.specs.Refusals.{timeAndArrowRows}
 use Rattle.terms.specs.Replies.{IsCheck}
@@ -20,9 +20,9 @@ use Rattle.terms.specs.declared.Counts.{Counts}
 use Rattle.terms.specs.declared.Counts.the-variants as counts
 use Rattle.terms.specs.declared.GraphSize.{GraphSize}
 use Rattle.terms.specs.declared.Refusal.{Refusal}
-use Rattle.stg.specs.Told.{hold, Fails, Rows, outcome, Leaves}
-use Rattle.stg.specs.Held.{AllPairs, Stored, ChecksRead, RoomOf, IsRefusalOf, Begins, TellsOf, keptBy, ClearedPast}
-use Rattle.stg.proofs.Pairs.{PairsIn, pairs-reading}
+use Rattle.stg.specs.LinesRead.{hold, Fails, Rows, outcome, Leaves}
+use Rattle.stg.specs.RowsRead.{AllPairs, Stored, ChecksRead, RoomOf, IsRefusalOf, Begins, TellsOf, keptBy, ClearedPast}
+use Rattle.stg.proofs.TwoEnds.{PairsIn, pairs-reading}
 use Rattle.stg.proofs.Clipped.{unclipped, accepted-first-rows}
 
 -- ---- what is asked first
@@ -31,16 +31,16 @@ module _ (timesRoom arrowsRoom size : ℕ) (reading : Reading) where
   abbrev asked : Reading
   asked = need (leb 256 timesRoom && leb 2048 arrowsRoom) 11 (need (leb size 60000) 20 reading)
 
-  pub short-times : timesRoom < 256 → asked ≡ refuse 11
+  pub short-times : timesRoom < 256 → asked ≡ refuse (refusalOf 11)
   short-times h = rw (lt-leb 256 timesRoom h)
 
-  pub short-arrows : 256 ≤ timesRoom → arrowsRoom < 2048 → asked ≡ refuse 11
+  pub short-arrows : 256 ≤ timesRoom → arrowsRoom < 2048 → asked ≡ refuse (refusalOf 11)
   short-arrows h k = rw (le-leb 256 timesRoom h, lt-leb 2048 arrowsRoom k)
 
-  pub long-text : 256 ≤ timesRoom → 2048 ≤ arrowsRoom → 60000 < size → asked ≡ refuse 20
+  pub long-text : 256 ≤ timesRoom → 2048 ≤ arrowsRoom → 60000 < size → asked ≡ refuse (refusalOf 20)
   long-text h k l = rw (le-leb 256 timesRoom h, le-leb 2048 arrowsRoom k, lt-leb size 60000 l)
 
-refused-by : (reading : Reading) (refusal : Refusal) → reading ≡ refuse (refusal .number) → IsRefusalOf reading refusal
+refused-by : (reading : Reading) (refusal : Refusal) → reading ≡ refuse refusal → IsRefusalOf reading refusal
 refused-by reading refusal e = rw e
 
 module _ (timesRoom arrowsRoom : ℕ) (text : List ℕ) where
@@ -61,7 +61,7 @@ module _ (timesRoom arrowsRoom : ℕ) (text : List ℕ) where
 
 -- ---- what the lines left
 
-fails-read : (k : ℕ) (reading : Reading) (ts : List ℕ) (ar : List (List ℕ)) → outcome ts ar 0 0 reading ≡ Fails k → reading ≡ refuse k
+fails-read : (k : Refusal) (reading : Reading) (ts : List ℕ) (ar : List (List ℕ)) → outcome ts ar 0 0 reading ≡ Fails k → reading ≡ refuse k
 fails-read k (refuse j) ts ar e = cc
 fails-read k (graph us bs) ts ar e = let z : _≡_ {A = ℕ} 0 1 = cc in absurd (omega arith)
 
@@ -86,9 +86,9 @@ module _ (reading : Reading) (ts : List ℕ) (ar : List (List ℕ)) (ts′ : Lis
   leaves : (x : Counts) → r ≡ x → Leaves ts ar reading ts′ ar′ x
   leaves x e = rw e at o
 
-  lines-refused : (refusal : Refusal) → r ≡ counts.Refused refusal → reading ≡ refuse (refusal .number)
+  lines-refused : (refusal : Refusal) → r ≡ counts.Refused refusal → reading ≡ refuse refusal
   unfolding Leaves
-  lines-refused refusal e = fails-read (refusal .number) reading ts ar (leaves (counts.Refused refusal) e)
+  lines-refused refusal e = fails-read refusal reading ts ar (leaves (counts.Refused refusal) e)
 
   lines-sized : (size : GraphSize) → r ≡ counts.Read size → Among 1 256 (size .subtasks)
   unfolding Leaves

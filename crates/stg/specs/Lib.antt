@@ -1,2 +1,2 @@
-pub mod Told
-pub mod Held
+pub mod LinesRead
+pub mod RowsRead

@@ -1,13 +1,14 @@
 // The reader of STG texts: one pass over the text, line by line, field by field.
-mod others;
+mod clearing;
+mod outer_lines;
 mod predecessors;
-mod rows;
 mod tasks;
 
+use clearing::clear_past;
 use graph::check;
-use others::take_closing;
-use others::take_opening;
-use rows::clear_past;
+use limits::check_subtasks;
+use outer_lines::take_closing;
+use outer_lines::take_opening;
 use tasks::Step;
 use tasks::take_subtasks;
 use terms::Check;
@@ -16,15 +17,15 @@ use terms::GraphSize;
 use terms::LONGEST_TEXT;
 use terms::MOST_ARROWS;
 use terms::MOST_SUBTASKS;
-use terms::Refusal;
+use terms::refuse;
 ghost use mathlib.Core.Path.{_≡_};
 ghost use Prim.Native.Nat.{_≤_};
 ghost use lib.ListN.{length, drop};
 ghost use Rattle.terms.specs.Graphs.{Among};
 ghost use Rattle.terms.specs.Texts.{lines};
 ghost use Rattle.terms.specs.Readings.{taskLines, readLines, readText, IsRead};
-ghost use Rattle.stg.specs.Told.{Leaves};
-ghost use Rattle.stg.specs.Held.{ChecksRead, RoomOf, TellsOf, keptBy};
+ghost use Rattle.stg.specs.LinesRead.{Leaves};
+ghost use Rattle.stg.specs.RowsRead.{ChecksRead, RoomOf, TellsOf, keptBy};
 
 // The lines from the first of n subtasks' on, the graph put down in the two rows.
 fn read_tasks(
@@ -39,11 +40,11 @@ fn read_tasks(
 {
     match take_subtasks(text, at, n, times, arrows) {
         Step::Refused(refusal) => Counts::Refused(refusal),
-        Step::Counted(a, e) => match take_closing(text, e, n + 1) {
+        Step::Counted(far) => match take_closing(text, far.next, n + 1) {
             Check::Refused(refusal) => Counts::Refused(refusal),
             Check::Sound => Counts::Read(GraphSize {
                 subtasks: n,
-                arrows: a,
+                arrows: far.count,
             }),
         },
     }
@@ -56,7 +57,7 @@ fn read_lines(text: &[u8], times: &mut [u16], arrows: &mut [[u16; 2]]) -> Counts
 {
     match take_opening(text) {
         Step::Refused(refusal) => Counts::Refused(refusal),
-        Step::Counted(n, e) => read_tasks(text, e, n, times, arrows),
+        Step::Counted(far) => read_tasks(text, far.next, far.count, times, arrows),
     }
 }
 
@@ -68,9 +69,9 @@ fn check_read(times: &[u16], n: usize, arrows: &[[u16; 2]], a: usize) -> Check
     if a <= MOST_ARROWS {
         return check(&times[..n], &arrows[..a]);
     }
-    match check(&times[..n], &arrows[..0]) {
-        Check::Sound => Check::Refused(Refusal { number: 3 }),
+    match check_subtasks(&times[..n]) {
         Check::Refused(refusal) => Check::Refused(refusal),
+        Check::Sound => Check::Refused(refuse(3)),
     }
 }
 
@@ -79,13 +80,13 @@ fn check_room(times: usize, arrows: usize, text: usize) -> Check
     ensures { λ r. ⌜ RoomOf times arrows text r ⌝ }
 {
     if times < MOST_SUBTASKS {
-        return Check::Refused(Refusal { number: 11 });
+        return Check::Refused(refuse(11));
     }
     if arrows < MOST_ARROWS {
-        return Check::Refused(Refusal { number: 11 });
+        return Check::Refused(refuse(11));
     }
     if LONGEST_TEXT < text {
-        return Check::Refused(Refusal { number: 20 });
+        return Check::Refused(refuse(20));
     }
     Check::Sound
 }

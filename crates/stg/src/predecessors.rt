@@ -1,4 +1,5 @@
 // What stands on a task's line behind its first three numbers: the predecessors.
+use terms::Subtask;
 use text::Next;
 use text::next_number;
 ghost use mathlib.Core.Path.{_≡_};
@@ -7,12 +8,20 @@ ghost use mathlib.Core.Bool.{_&&_};
 ghost use Prim.Native.Nat.{_≤_, _<_};
 ghost use lib.Dec.{ltb};
 ghost use lib.ListN.{length};
-ghost use Rattle.stg.specs.Told.{clipped, Added, PredecessorsOf};
+ghost use Rattle.stg.specs.LinesRead.{clipped, Added, PredecessorsOf};
 
-// The rest of a line: how many numbers it has, whether they are all below i, how many arrows there are then, and where the next line begins.
+// The rest of a line: how many numbers it has, whether they are all below the task's index, how many arrows there are then, and where the
+// next line begins.
+pub struct Rest {
+    pub count: usize,
+    pub below: bool,
+    pub arrows: usize,
+    pub next: usize,
+}
+
 pub enum Predecessors {
     Misshapen,
-    Are(usize, bool, usize, usize),
+    Are(Rest),
 }
 
 pub fn narrow(x: usize) -> u16
@@ -23,37 +32,38 @@ pub fn narrow(x: usize) -> u16
 }
 
 // A predecessor as the row holds it: what 16 bits cannot hold is no subtask's number either way.
-fn clip(x: usize) -> u16
-    ensures { λ r. ⌜ r ≡ clipped x ⌝ }
+fn clip(predecessor: Subtask) -> u16
+    ensures { λ r. ⌜ r ≡ clipped (predecessor .0) ⌝ }
 {
-    if 65535 < x {
+    let p = predecessor.0;
+    if 65535 < p {
         return 65535;
     }
-    narrow(x)
+    narrow(p)
 }
 
 // Whether the predecessors are all below i, with one more of them.
-fn still_below(below: bool, p: usize, i: usize) -> bool
-    ensures { λ r. ⌜ r ≡ (below && ltb p i) ⌝ }
+fn still_below(below: bool, predecessor: Subtask, i: usize) -> bool
+    ensures { λ r. ⌜ r ≡ (below && ltb (predecessor .0) i) ⌝ }
 {
-    if p < i {
+    if predecessor.0 < i {
         return below;
     }
     false
 }
 
-// The arrow of a predecessor of task i: 0 gives none, and one beyond the row is counted only.
-fn add_arrow(p: usize, i: usize, arrows: &mut [[u16; 2]], a: usize) -> usize
-    requires { ⌜ (i < 65536) × (a < 18446744073709551615) ⌝ }
-    ensures { λ r. ⌜ Added i (p ∷ []) a (now (arrows .entry)) r (now (arrows .exit)) ⌝ }
+// The arrow of a predecessor: 0 gives none, and one beyond the row is counted only.
+fn add_arrow(from: Subtask, to: Subtask, arrows: &mut [[u16; 2]], a: usize) -> usize
+    requires { ⌜ (to .0 < 65536) × (a < 18446744073709551615) ⌝ }
+    ensures { λ r. ⌜ Added (to .0) (from .0 ∷ []) a (now (arrows .entry)) r (now (arrows .exit)) ⌝ }
 {
-    if p == 0 {
+    if from.0 == 0 {
         return a;
     }
     if arrows.len() <= a {
         return a + 1;
     }
-    arrows[a] = [clip(p), narrow(i)];
+    arrows[a] = [clip(from), narrow(to.0)];
     a + 1
 }
 
@@ -78,11 +88,16 @@ pub fn take_predecessors(
                 return Predecessors::Misshapen;
             }
             Next::LineEnd(e) => {
-                return Predecessors::Are(k, below, b, e);
+                return Predecessors::Are(Rest {
+                    count: k,
+                    below,
+                    arrows: b,
+                    next: e,
+                });
             }
             Next::Field(p, e) => {
-                below = still_below(below, p, i);
-                b = add_arrow(p, i, arrows, b);
+                below = still_below(below, Subtask(p), i);
+                b = add_arrow(Subtask(p), Subtask(i), arrows, b);
                 here = e;
             }
         }

@@ -3,22 +3,35 @@ use super::predecessors::Predecessors;
 use super::predecessors::narrow;
 use super::predecessors::take_predecessors;
 use terms::Refusal;
+use terms::refuse;
 use text::Next;
 use text::next_number;
 ghost use Prim.Native.Nat.{_≤_, _<_};
 ghost use lib.ListN.{length};
-ghost use Rattle.stg.specs.Told.{TaskOf, SubtaskOf, SubtasksOf};
+ghost use Rattle.stg.specs.LinesRead.{TaskOf, SubtaskOf, SubtasksOf};
 
 // A task's line: its time, whether its predecessors are all below its index, how many arrows there are then, and where the next line begins.
-pub enum Task {
-    Misshapen,
-    Is(usize, bool, usize, usize),
+pub struct TaskLine {
+    pub time: usize,
+    pub below: bool,
+    pub arrows: usize,
+    pub next: usize,
 }
 
-// How many subtasks or arrows there are so far, and where the next line begins.
+pub enum Task {
+    Misshapen,
+    Is(TaskLine),
+}
+
+// How far the text is read: how many subtasks, or arrows, there are so far, and where the next line begins.
+pub struct Progress {
+    pub count: usize,
+    pub next: usize,
+}
+
 pub enum Step {
     Refused(Refusal),
-    Counted(usize, usize),
+    Counted(Progress),
 }
 
 // The line of task i: its index, its time, the number of its predecessors, and as many predecessors.
@@ -38,13 +51,18 @@ pub fn task_line(text: &[u8], at: usize, i: usize, arrows: &mut [[u16; 2]], a: u
     let Next::Field(count, past_count) = next_number(text, past_time) else {
         return Task::Misshapen;
     };
-    let Predecessors::Are(k, below, b, e) = take_predecessors(text, past_count, i, arrows, a) else {
+    let Predecessors::Are(rest) = take_predecessors(text, past_count, i, arrows, a) else {
         return Task::Misshapen;
     };
-    if count != k {
+    if count != rest.count {
         return Task::Misshapen;
     }
-    Task::Is(t, below, b, e)
+    Task::Is(TaskLine {
+        time: t,
+        below: rest.below,
+        arrows: rest.arrows,
+        next: rest.next,
+    })
 }
 
 // The line of subtask j + 1.
@@ -59,14 +77,18 @@ fn take_subtask(
     requires { ⌜ (at ≤ length (now text)) × (j < 256) × (256 ≤ length (now times)) × (a ≤ at) ⌝ }
     ensures { λ r. ⌜ SubtaskOf (now (text .entry)) at j a (now (times .entry)) (now (arrows .entry)) (now (times .exit)) (now (arrows .exit)) r ⌝ }
 {
-    let Task::Is(t, _, b, e) = task_line(text, at, j + 1, arrows, a) else {
-        return Step::Refused(Refusal { number: 22 });
+    let Task::Is(line) = task_line(text, at, j + 1, arrows, a) else {
+        return Step::Refused(refuse(22));
     };
+    let t = line.time;
     if 65535 < t {
-        return Step::Refused(Refusal { number: 24 });
+        return Step::Refused(refuse(24));
     }
     times[j] = narrow(t);
-    Step::Counted(b, e)
+    Step::Counted(Progress {
+        count: line.arrows,
+        next: line.next,
+    })
 }
 
 // The lines of the n subtasks.
@@ -85,15 +107,18 @@ pub fn take_subtasks(
     let mut j: usize = 0;
     while j < n {
         match take_subtask(text, here, j, times, arrows, a) {
-            Step::Refused(k) => {
-                return Step::Refused(k);
+            Step::Refused(refusal) => {
+                return Step::Refused(refusal);
             }
-            Step::Counted(b, e) => {
-                a = b;
-                here = e;
+            Step::Counted(far) => {
+                a = far.count;
+                here = far.next;
             }
         }
         j += 1;
     }
-    Step::Counted(a, here)
+    Step::Counted(Progress {
+        count: a,
+        next: here,
+    })
 }

@@ -3,6 +3,7 @@ use mathlib.Core.Path.{_≡_, refl}
 use mathlib.Core.List.{List, [], _∷_, _++_}
 use Prim.Native.Nat.{ℕ}
 use Rattle.terms.specs.Texts.{allPass, lines, fields, valueFrom, proper, numbers, blanks, digits, nextField}
+use Rattle.terms.specs.Rows.{refusalOf}
 use Rattle.terms.specs.Readings.{Reading, refuse, graph, isSize, isFirst, isShape, isTask, isEntryDummy, isExitDummy, mayFollow, arrowsInto, withTask, trailer, exitLine, taskLines, entryLine, readLines, readText}
 
 -- a text, read with room for 256 times and 2,048 arrows
@@ -26,24 +27,24 @@ pub record WorkedTexts : Type 0 where
   -- "2", "0 0 0", "1 5 0", "2 6 1 1", "3 0 1 2": subtask 2 waits for 1
   pub oneArrow : read ((50 ∷ 10 ∷ 48 ∷ 32 ∷ 48 ∷ 32 ∷ 48 ∷ 10 ∷ 49 ∷ 32 ∷ 53 ∷ 32 ∷ 48 ∷ 10 ∷ []) ++ (50 ∷ 32 ∷ 54 ∷ 32 ∷ 49 ∷ 32 ∷ 49 ∷ 10 ∷ 51 ∷ 32 ∷ 48 ∷ 32 ∷ 49 ∷ 32 ∷ 50 ∷ []))
       ≡ graph (5 ∷ 6 ∷ []) ((1 ∷ 2 ∷ []) ∷ [])
-  pub noRoom : readText 255 2048 frames ≡ refuse 11
-  pub empty : read [] ≡ refuse 21
+  pub noRoom : readText 255 2048 frames ≡ refuse (refusalOf 11)
+  pub empty : read [] ≡ refuse (refusalOf 21)
   -- "1", "0 1 0": the entry dummy has a time
-  pub timedDummy : read (49 ∷ 10 ∷ 48 ∷ 32 ∷ 49 ∷ 32 ∷ 48 ∷ []) ≡ refuse 23
+  pub timedDummy : read (49 ∷ 10 ∷ 48 ∷ 32 ∷ 49 ∷ 32 ∷ 48 ∷ []) ≡ refuse (refusalOf 23)
   -- "1", "0 0 1": one predecessor is announced and none stands there
-  pub shortDummy : read (49 ∷ 10 ∷ 48 ∷ 32 ∷ 48 ∷ 32 ∷ 49 ∷ []) ≡ refuse 22
+  pub shortDummy : read (49 ∷ 10 ∷ 48 ∷ 32 ∷ 48 ∷ 32 ∷ 49 ∷ []) ≡ refuse (refusalOf 22)
   -- "1 7 1 70000", with a tab: predecessor 70000 is an arrow, which 4 refuses
   pub farPredecessor : read (around (49 ∷ 32 ∷ 55 ∷ 9 ∷ 49 ∷ 32 ∷ 55 ∷ 48 ∷ 48 ∷ 48 ∷ 48 ∷ 10 ∷ [])) ≡ graph (7 ∷ []) ((70000 ∷ 1 ∷ []) ∷ [])
   -- "1 70000 0"
-  pub longTime : read (around (49 ∷ 32 ∷ 55 ∷ 48 ∷ 48 ∷ 48 ∷ 48 ∷ 32 ∷ 48 ∷ 10 ∷ [])) ≡ refuse 24
+  pub longTime : read (around (49 ∷ 32 ∷ 55 ∷ 48 ∷ 48 ∷ 48 ∷ 48 ∷ 32 ∷ 48 ∷ 10 ∷ [])) ≡ refuse (refusalOf 24)
   -- "1 7 0", then a CR that stands alone
-  pub loneReturn : read (around (49 ∷ 32 ∷ 55 ∷ 32 ∷ 48 ∷ 13 ∷ 32 ∷ 10 ∷ [])) ≡ refuse 22
+  pub loneReturn : read (around (49 ∷ 32 ∷ 55 ∷ 32 ∷ 48 ∷ 13 ∷ 32 ∷ 10 ∷ [])) ≡ refuse (refusalOf 22)
   -- "1 000000007 0": nine digits
-  pub nineDigits : read (around (49 ∷ 32 ∷ 48 ∷ 48 ∷ 48 ∷ 48 ∷ 48 ∷ 48 ∷ 48 ∷ 48 ∷ 55 ∷ 32 ∷ 48 ∷ 10 ∷ [])) ≡ refuse 22
+  pub nineDigits : read (around (49 ∷ 32 ∷ 48 ∷ 48 ∷ 48 ∷ 48 ∷ 48 ∷ 48 ∷ 48 ∷ 48 ∷ 55 ∷ 32 ∷ 48 ∷ 10 ∷ [])) ≡ refuse (refusalOf 22)
   -- "1 7 0", "2 0 1 2" in the exit dummy's place: its predecessor is itself
-  pub ownPredecessor : read ((49 ∷ 10 ∷ 48 ∷ 32 ∷ 48 ∷ 32 ∷ 48 ∷ 10 ∷ 49 ∷ 32 ∷ 55 ∷ 32 ∷ 48 ∷ 10 ∷ []) ++ (50 ∷ 32 ∷ 48 ∷ 32 ∷ 49 ∷ 32 ∷ 50 ∷ [])) ≡ refuse 23
+  pub ownPredecessor : read ((49 ∷ 10 ∷ 48 ∷ 32 ∷ 48 ∷ 32 ∷ 48 ∷ 10 ∷ 49 ∷ 32 ∷ 55 ∷ 32 ∷ 48 ∷ 10 ∷ []) ++ (50 ∷ 32 ∷ 48 ∷ 32 ∷ 49 ∷ 32 ∷ 50 ∷ [])) ≡ refuse (refusalOf 23)
   -- "1 7 0" and a comment before the exit dummy
-  pub commentInside : read (around (49 ∷ 32 ∷ 55 ∷ 32 ∷ 48 ∷ 10 ∷ 35 ∷ 10 ∷ [])) ≡ refuse 22
+  pub commentInside : read (around (49 ∷ 32 ∷ 55 ∷ 32 ∷ 48 ∷ 10 ∷ 35 ∷ 10 ∷ [])) ≡ refuse (refusalOf 22)
   -- the next field of " \t12 3" is "12"
   pub nextPiece : nextField (32 ∷ 9 ∷ 49 ∷ 50 ∷ 32 ∷ 51 ∷ []) ≡ 49 ∷ 50 ∷ []
 

@@ -8,18 +8,19 @@ use lib.ListN.{length, getD, drop, replicate}
 use Rattle.terms.specs.Rows.{Accepted, RefusedBy, refusalOf}
 use Rattle.terms.specs.Refusals.{timeAndArrowRows}
 use Rattle.terms.specs.Texts.{allPass, begins, isBlank, lines, proper, numbers}
+use Rattle.terms.specs.declared.Refusal.{Refusal}
 use Rattle.terms.specs.declared.Counts.{Counts}
 use Rattle.terms.specs.declared.Counts.the-variants as counts
 
--- a number of refusal, or a graph: its times and its arrows, each "from, to"
+-- a refusal, or a graph: its times and its arrows, each "from, to"
 pub data Reading : Type 0 where
-  refuse : ℕ → Reading
+  refuse : Refusal → Reading
   graph : List ℕ → List (List ℕ) → Reading
 
--- the reading where the test is passed, and else refusal k
+-- the reading where the test is passed, and else the refusal with number k
 abbrev pub need : Bool → ℕ → Reading → Reading
 need true k reading = reading
-need false k reading = refuse k
+need false k reading = refuse (refusalOf k)
 
 -- the line at hand and the lines after it; a line that is missing is no better than an empty one
 abbrev pub lineAtHand : List (List ℕ) → List ℕ
@@ -81,7 +82,7 @@ arrowsInto i (p ∷ predecessors) = cond (eqb p 0) (arrowsInto i predecessors) (
 
 -- a subtask's time and its arrows, before those of the later ones
 unfoldable pub withTask : ℕ → List (List ℕ) → Reading → Reading
-withTask time into (refuse k) = refuse k
+withTask time into (refuse refusal) = refuse refusal
 withTask time into (graph times arrows) = graph (time ∷ times) (into ++ arrows)
 
 -- ---- all lines in order: the earliest line decides, on one line the lowest number
@@ -128,9 +129,9 @@ pub record RowsHold (timesRoom arrowsRoom : ℕ) (times : List ℕ) (arrows : Li
 
 -- with a refusal both rows are all zeros; otherwise they hold the graph, and the reply has its counts. 2 to 7 are asked of the graph that was read
 unfoldable pub IsReplyTo : Reading → ℕ → ℕ → List ℕ → List (List ℕ) → Counts → Type 0
-IsReplyTo (refuse k) timesRoom arrowsRoom timesRow arrowsRow (counts.Refused refusal) =
-    (refusal ≡ refusalOf k) × RowsHold timesRoom arrowsRoom [] [] timesRow arrowsRow
-IsReplyTo (refuse k) timesRoom arrowsRoom timesRow arrowsRow (counts.Read size) = ⊥
+IsReplyTo (refuse first) timesRoom arrowsRoom timesRow arrowsRow (counts.Refused refusal) =
+    (refusal ≡ first) × RowsHold timesRoom arrowsRoom [] [] timesRow arrowsRow
+IsReplyTo (refuse first) timesRoom arrowsRoom timesRow arrowsRow (counts.Read size) = ⊥
 IsReplyTo (graph times arrows) timesRoom arrowsRoom timesRow arrowsRow (counts.Refused refusal) =
     RefusedBy (timeAndArrowRows times arrows) refusal × RowsHold timesRoom arrowsRoom [] [] timesRow arrowsRow
 IsReplyTo (graph times arrows) timesRoom arrowsRoom timesRow arrowsRow (counts.Read size) =

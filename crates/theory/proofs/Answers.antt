@@ -63,6 +63,16 @@ unfolding Accepted
 accepted-both [] later x = (tt, x)
 accepted-both (row ∷ rows) later (n, x) = let both = accepted-both rows later x in ((n, both .0), both .1)
 
+-- the same first rows, and later ones that answer alike
+pub refused-tail : (rows later later′ : List Row) (a : Refusal) → (RefusedBy later a → RefusedBy later′ a) → RefusedBy (rows ++ later) a → RefusedBy (rows ++ later′) a
+unfolding RefusedBy
+refused-tail [] later later′ a f x = f x
+refused-tail (row ∷ rows) later later′ a f (inl g) = inl g
+refused-tail (row ∷ rows) later later′ a f (inr (n, x)) = inr (n, refused-tail rows later later′ a f x)
+
+pub accepted-tail : (rows later later′ : List Row) → (Accepted later → Accepted later′) → Accepted (rows ++ later) → Accepted (rows ++ later′)
+accepted-tail rows later later′ f x = let both = accepted-both rows later x in accepted-join rows later′ (both .0) (f (both .1))
+
 -- ---- test by test
 
 -- none of the rows before the rest holds: what the rest answers, all answer

@@ -2,8 +2,9 @@
 use mathlib.Core.Path.{_≡_, sym}
 use mathlib.Core.List.{List}
 use native.Mathlib.Omega.{arith}
-use borrow.Author.Needs.{needs}
 use lib.Seq.{length-take-le}
+use denote.Ref.{now}
+use borrow.Author.Needs.{needs}
 use Rattle.terms.specs.Rows.{Row}
 use Rattle.terms.specs.Replies.{IsCheck}
 use Rattle.terms.specs.declared.Check.{Check}
@@ -15,53 +16,39 @@ known : (rows : List Row) (r x : Check) → r ≡ x → IsCheck rows r → IsChe
 known rows r x e h = rw e at h
 
 slice-aggregate-check : tie.Need-slice-aggregate-check
-slice-aggregate-check c =
-    let c-args = c .before .before .before .args in
-    sym (length-take-le (c-args .n) (c-args .times .now) (omega arith))
+slice-aggregate-check c = sym (length-take-le _ _ (omega arith))
 
 slice-aggregate-check-2 : tie.Need-slice-aggregate-check-2
-slice-aggregate-check-2 c =
-    let c-args = c .before .before .before .before .args in
-    sym (length-take-le (c-args .a) (c-args .arrows .now) (omega arith))
+slice-aggregate-check-2 c = sym (length-take-le _ _ (omega arith))
 
 check-requires : tie.Need-check-requires
 check-requires c κs = search needs
 
 returns : tie.Need-returns
-returns c =
-    let c-args = c .before .before .before .before .before .args in
-    let c-check = c .check in
-    let c-if1 = c .before .before .before .if1 in
-    checks-few (c-args .times .now) (c-args .n) (c-args .arrows .now) (c-args .a) (omega arith) (omega arith) (omega arith) (c-check .result) (omega arith) (c-check .ensures)
+returns c = checks-few (now (c .before .before .before .before .before .args .times)) (c .before .before .before .before .before .args .n) (now (c .before .before .before .before .before .args .arrows)) (c .before .before .before .before .before .args .a) (omega arith) (omega arith) (omega arith) _ (omega arith) (c .check .ensures)
 
-slice-aggregate-check-3 : tie.Need-slice-aggregate-check-3
-slice-aggregate-check-3 c =
-    let c-args = c .before .before .before .args in
-    sym (length-take-le (c-args .n) (c-args .times .now) (omega arith))
+slice-aggregate-check-subtasks : tie.Need-slice-aggregate-check-subtasks
+slice-aggregate-check-subtasks c = sym (length-take-le _ _ (omega arith))
 
-slice-aggregate-check-4 : tie.Need-slice-aggregate-check-4
-slice-aggregate-check-4 c = search needs
-
-check-requires-2 : tie.Need-check-requires-2
-check-requires-2 c κs = search needs
-
-enum-told : tie.Need-enum-told
-enum-told c = search needs
+check-subtasks-requires : tie.Need-check-subtasks-requires
+check-subtasks-requires c κs = search needs
 
 enum-known-refusal : tie.Need-enum-known-refusal
 enum-known-refusal c = search needs
 
+enum-told : tie.Need-enum-told
+enum-told c = search needs
+
+refuse-requires : tie.Need-refuse-requires
+refuse-requires c κs = search needs
+
 returns-2 : tie.Need-returns-2
-returns-2 c =
-    let c-args = c .before .before .before .before .before .before .before .args in
-    let c-check2 = c .before .before .check2 in
-    checks-three (c-args .times .now) (c-args .n) (c-args .arrows .now) (c-args .a) (omega arith) (omega arith) (omega arith) (omega arith) (known _ _ _ (c .enum-told .given .1) (c-check2 .ensures))
+unfolding IsCheck
+returns-2 c = checks-two (now (c .before .before .before .before .before .before .before .args .times)) (c .before .before .before .before .before .before .before .args .n) (now (c .before .before .before .before .before .before .before .args .arrows)) (c .before .before .before .before .before .before .before .args .a) (omega arith) (omega arith) (omega arith) _ (known _ _ _ (c .before .refusal .given .1) (c .before .before .before .check-subtasks .ensures))
 
 returns-3 : tie.Need-returns-3
-returns-3 c =
-    let c-args = c .before .before .before .before .before .before .before .before .args in
-    let c-check2 = c .before .before .before .check2 in
-    checks-two (c-args .times .now) (c-args .n) (c-args .arrows .now) (c-args .a) (omega arith) (omega arith) (omega arith) _ (known _ _ _ (c .before .refusal .given .1) (c-check2 .ensures))
+unfolding IsCheck
+returns-3 c = checks-three (now (c .before .before .before .before .before .before .before .args .times)) (c .before .before .before .before .before .before .before .args .n) (now (c .before .before .before .before .before .before .before .args .arrows)) (c .before .before .before .before .before .before .before .args .a) (omega arith) (omega arith) (omega arith) (omega arith) (known _ _ _ (c .before .enum-told .given .1) (c .before .before .before .check-subtasks .ensures)) (c .refuse .ensures)
 
 pub check-read-spec : {M : Type 1} → statement M
 check-read-spec =
@@ -71,10 +58,10 @@ check-read-spec =
     slice-aggregate-check-2
     check-requires
     returns
-    slice-aggregate-check-3
-    slice-aggregate-check-4
-    check-requires-2
-    enum-told
+    slice-aggregate-check-subtasks
+    check-subtasks-requires
     enum-known-refusal
+    enum-told
+    refuse-requires
     returns-2
     returns-3)

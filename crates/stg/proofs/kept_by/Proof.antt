@@ -1,7 +1,7 @@
 -- `kept_by`: a refusal keeps nothing of the rows. Assumes nothing.
 use mathlib.Core.Path.{sym, ap}
 use borrow.Author.Needs.{needs}
-use Rattle.stg.specs.Held.{keptBy}
+use Rattle.stg.specs.RowsRead.{keptBy}
 use Rattle.stg.proofs.kept_by.Statement.{statement}
 use Rattle.stg.proofs.kept_by.Tie as tie
 

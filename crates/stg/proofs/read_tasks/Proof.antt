@@ -3,14 +3,16 @@ use mathlib.Core.Path.{_≡_}
 use mathlib.Core.List.{List}
 use Prim.Native.Nat.{ℕ}
 use native.Mathlib.Omega.{arith}
+use denote.Ref.{now}
 use borrow.Author.Needs.{needs}
-use Rattle.stg.specs.Told.{SubtasksOf, Leaves}
+use Rattle.stg.specs.LinesRead.{SubtasksOf, Leaves}
 use Rattle.stg.specs.declared.tasks.Step.{Step}
-use Rattle.stg.proofs.Whole.{closing-refused, closing-sound}
+use Rattle.stg.proofs.AllLines.{closing-refused, closing-sound}
 use Rattle.stg.proofs.read_tasks.Statement.{statement}
 use Rattle.stg.proofs.read_tasks.Tie as tie
 
-tasked : (text : List ℕ) (at n : ℕ) (ts : List ℕ) (ar : List (List ℕ)) (ts′ : List ℕ) (ar′ : List (List ℕ)) (r x : Step) → r ≡ x → SubtasksOf text at n ts ar ts′ ar′ r → SubtasksOf text at n ts ar ts′ ar′ x
+tasked : (text : List ℕ) (at n : ℕ) (ts : List ℕ) (ar : List (List ℕ)) (ts′ : List ℕ) (ar′ : List (List ℕ)) (r x : Step) → r ≡ x
+    → SubtasksOf text at n ts ar ts′ ar′ r → SubtasksOf text at n ts ar ts′ ar′ x
 tasked text at n ts ar ts′ ar′ r x e h = rw e at h
 
 take-subtasks-requires : tie.Need-take-subtasks-requires
@@ -19,18 +21,14 @@ take-subtasks-requires c κs = search needs
 enum-known-refusal : tie.Need-enum-known-refusal
 enum-known-refusal c = search needs
 
-enum-known-a : tie.Need-enum-known-a
-enum-known-a c = search needs
+enum-known-far : tie.Need-enum-known-far
+enum-known-far c = search needs
 
 add-take-closing : tie.Need-add-take-closing
 add-take-closing c = search needs
 
 take-closing-requires : tie.Need-take-closing-requires
-take-closing-requires c κs =
-    let c-args = c .before .before .before .before .before .before .before .before .before .before .before .args in
-    let c-a = c .before .a in
-    let c-take-subtasks = c .before .before .before .before .before .before .take-subtasks in
-    (tasked (c-args .text .now) _ _ (c-args .times .now) (c-args .arrows .now) _ _ _ _ (c-a .given .1) (c-take-subtasks .ensures) .inside, omega arith)
+take-closing-requires c κs = ((tasked _ _ _ _ _ _ _ _ _ (c .before .far .given .1) (c .before .before .before .before .before .before .take-subtasks .ensures)) .inside, omega arith)
 
 enum-known-refusal-2 : tie.Need-enum-known-refusal-2
 enum-known-refusal-2 c = search needs
@@ -46,10 +44,7 @@ same-length-2 c = search needs
 
 returns : tie.Need-returns
 unfolding Leaves
-returns c =
-    let c-args = c .before .before .before .before .before .before .before .before .before .before .before .args in
-    let c-take-subtasks = c .before .before .before .before .before .before .take-subtasks in
-    tasked (c-args .text .now) _ _ (c-args .times .now) (c-args .arrows .now) _ _ _ _ (c .before .refusal .given .1) (c-take-subtasks .ensures)
+returns c = tasked _ _ _ _ _ _ _ _ _ (c .before .refusal .given .1) (c .before .before .before .before .before .before .take-subtasks .ensures)
 
 same-length-3 : tie.Need-same-length-3
 same-length-3 c = search needs
@@ -58,13 +53,7 @@ same-length-4 : tie.Need-same-length-4
 same-length-4 c = search needs
 
 returns-2 : tie.Need-returns-2
-returns-2 c =
-    let c-args = c .before .before .before .before .before .before .before .before .before .before .before .before .before .before .before .args in
-    let c-a = c .before .before .before .before .before .a in
-    let c-take-subtasks = c .before .before .before .before .before .before .before .before .before .before .take-subtasks in
-    let c-take-closing = c .before .before .before .take-closing in
-    let t = tasked (c-args .text .now) _ _ (c-args .times .now) (c-args .arrows .now) _ _ _ _ (c-a .given .1) (c-take-subtasks .ensures) in
-    closing-refused (c-args .text .now) (c-args .times .now) (c-args .arrows .now) _ _ _ _ _ _ t _ (c-take-closing .ensures) _ (c .before .refusal2 .given .1)
+returns-2 c = closing-refused _ _ _ _ _ (tasked _ _ _ _ _ _ _ _ _ (c .before .before .before .before .before .far .given .1) (c .before .before .before .before .before .before .before .before .before .before .take-subtasks .ensures)) (c .before .before .before .take-closing .ensures) _ (c .before .refusal2 .given .1)
 
 same-length-5 : tie.Need-same-length-5
 same-length-5 c = search needs
@@ -73,14 +62,7 @@ same-length-6 : tie.Need-same-length-6
 same-length-6 c = search needs
 
 returns-3 : tie.Need-returns-3
-returns-3 c =
-    let c-args = c .before .before .before .before .before .before .before .before .before .before .before .before .before .before .args in
-    let c-pre = c .before .before .before .before .before .before .before .before .before .before .before .before .before .before .pre in
-    let c-a = c .before .before .before .before .a in
-    let c-take-subtasks = c .before .before .before .before .before .before .before .before .before .take-subtasks in
-    let c-take-closing = c .before .before .take-closing in
-    let t = tasked (c-args .text .now) _ _ (c-args .times .now) (c-args .arrows .now) _ _ _ _ (c-a .given .1) (c-take-subtasks .ensures) in
-    closing-sound (c-args .text .now) (c-args .times .now) (c-args .arrows .now) _ _ _ _ _ _ t _ (c-take-closing .ensures) (c .enum-told .given .1) (c-pre .1)
+returns-3 c = closing-sound _ _ _ _ _ (tasked _ _ _ _ _ _ _ _ _ (c .before .before .before .before .far .given .1) (c .before .before .before .before .before .before .before .before .before .take-subtasks .ensures)) (c .before .before .take-closing .ensures) (c .enum-told .given .1) (c .before .before .before .before .before .before .before .before .before .before .before .before .before .before .pre .1)
 
 pub read-tasks-spec : {M : Type 1} → statement M
 read-tasks-spec =
@@ -88,7 +70,7 @@ read-tasks-spec =
     (tie.spec
     take-subtasks-requires
     enum-known-refusal
-    enum-known-a
+    enum-known-far
     add-take-closing
     take-closing-requires
     enum-known-refusal-2

@@ -5,13 +5,13 @@ use native.Mathlib.Omega.{arith}
 use lib.ListN.{length}
 use borrow.Author.Needs.{needs}
 use Rattle.text.proofs.Standing.{Passed}
-use Rattle.stg.proofs.Seen.{seen}
-use Rattle.stg.proofs.Along.{Along, along-none, along-more, along-bad, along-end}
+use Rattle.stg.proofs.NextNumbers.{seen}
+use Rattle.stg.proofs.RestOfLine.{Passing, passing-none, passing-more, passing-bad, passing-end}
 use Rattle.stg.proofs.predecessors.take_predecessors.Statement.{statement}
 use Rattle.stg.proofs.predecessors.take_predecessors.Tie as tie
 
 abbrev Inv-loop : tie.InvT-loop
-Inv-loop text at i arrows₀ a here₀ k₀ below₀ b₀ arrows here k below b = (Along text at i arrows₀ a here k below b arrows) × (length arrows ≡ length arrows₀)
+Inv-loop text at i arrows₀ a here₀ k₀ below₀ b₀ arrows here k below b = (Passing text at i arrows₀ a here k below b arrows) × (length arrows ≡ length arrows₀)
 
 abbrev μ-loop : tie.MeasureT-loop
 μ-loop text at i arrows₀ a here₀ k₀ below₀ b₀ arrows here k below b = length text - here
@@ -24,7 +24,7 @@ passed c =
 loop-holds : tie.Need-loop-holds Inv-loop μ-loop
 loop-holds c =
     let c-args = c .before .args in
-    (along-none (c-args .text .now) (c-args .at) (c-args .i) (c-args .arrows .now) (c-args .a) (omega arith) (omega arith), refl)
+    (passing-none (c-args .text .now) (c-args .at) (c-args .i) (c-args .arrows .now) (c-args .a) (omega arith) (omega arith), refl)
 
 next-number-requires : tie.Need-next-number-requires Inv-loop μ-loop
 next-number-requires c κs = search needs
@@ -42,7 +42,7 @@ returns c =
     let c-args = c .before .before .before .before .before .args in
     let c-loop = c .before .before .before .loop in
     let c-next-number = c .before .before .next-number in
-    along-bad (c-args .text .now) (c-args .at) (c-args .i) (c-args .arrows .now) (c-args .a) (c-loop .here) (c-loop .k) (c-loop .below) (c-loop .b) (c-loop .arrows) (c-loop .inv .0) (seen (c-args .text .now) (c-loop .here) _ _ (c .enum-told .given .1) (omega arith) (c-next-number .ensures))
+    passing-bad (c-loop .inv .0) (seen (c-args .text .now) (c-loop .here) _ _ (c .enum-told .given .1) (omega arith) (c-next-number .ensures))
 
 enum-known-e : tie.Need-enum-known-e Inv-loop μ-loop
 enum-known-e c = search needs
@@ -57,7 +57,7 @@ returns-2 c =
     let c-args = c .before .before .before .before .before .before .args in
     let c-loop = c .before .before .before .before .loop in
     let c-next-number = c .before .before .before .next-number in
-    along-end (c-args .text .now) (c-args .at) (c-args .i) (c-args .arrows .now) (c-args .a) (c-loop .here) (c-loop .k) (c-loop .below) (c-loop .b) (c-loop .arrows) (c-loop .inv .0) _ (seen (c-args .text .now) (c-loop .here) _ _ (c .before .e .given .1) (omega arith) (c-next-number .ensures))
+    passing-end (c-loop .inv .0) (seen (c-args .text .now) (c-loop .here) _ _ (c .before .e .given .1) (omega arith) (c-next-number .ensures))
 
 enum-known-p : tie.Need-enum-known-p Inv-loop μ-loop
 enum-known-p c = search needs
@@ -80,7 +80,7 @@ loop-again c =
     let c-loop = c .before .before .before .before .before .before .before .before .loop in
     let c-still-below = c .before .before .before .still-below in
     let c-add-arrow = c .before .add-arrow in
-    (along-more (c-args .text .now) (c-args .at) (c-args .i) (c-args .arrows .now) (c-args .a) (c-loop .here) (c-loop .k) (c-loop .below) (c-loop .b) (c-loop .arrows) (c-loop .inv .0) _ _ (c-still-below .result) (c-add-arrow .result) _ (passed (c .before .before .before .before .before)) (c-still-below .ensures) (c-add-arrow .ensures), c .arrows .given ∙ c-loop .inv .1)
+    (passing-more (c-loop .inv .0) (passed (c .before .before .before .before .before)) (c-still-below .ensures) (c-add-arrow .ensures), c .arrows .given ∙ c-loop .inv .1)
 
 pub take-predecessors-spec : {M : Type 1} → statement M
 take-predecessors-spec =

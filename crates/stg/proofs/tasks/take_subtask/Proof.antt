@@ -1,9 +1,10 @@
 -- `take_subtask`: one subtask's line, its time and arrows put down. Assumes nothing.
 use Prim.Native.Nat.{_+_}
 use native.Mathlib.Omega.{arith}
+use denote.Ref.{now}
 use borrow.Author.Needs.{needs}
-use Rattle.stg.proofs.OneLine.{tasked}
-use Rattle.stg.proofs.Laid.{subtask-bad, subtask-long, subtask-is}
+use Rattle.stg.proofs.OneLine.{made, tasked}
+use Rattle.stg.proofs.SubtaskLines.{subtask-bad, subtask-long, subtask-is}
 use Rattle.stg.proofs.tasks.take_subtask.Statement.{statement}
 use Rattle.stg.proofs.tasks.take_subtask.Tie as tie
 
@@ -13,31 +14,29 @@ add-task-line c = omega arith
 task-line-requires : tie.Need-task-line-requires
 task-line-requires c κs = (omega arith, omega arith, omega arith)
 
-enum-known-t : tie.Need-enum-known-t
-enum-known-t c = search needs
+enum-known-line : tie.Need-enum-known-line
+enum-known-line c = search needs
 
 enum-told : tie.Need-enum-told
 enum-told c = search needs
+
+refuse-requires : tie.Need-refuse-requires
+refuse-requires c κs = search needs
 
 same-length : tie.Need-same-length
 same-length c = search needs
 
 returns : tie.Need-returns
-returns c =
-    let c-args = c .before .before .before .before .before .before .before .args in
-    let c-task-line = c .before .before .before .task-line in
-    subtask-bad (c-args .text .now) (c-args .at) (c-args .j) (tasked (c-args .text .now) (c-args .at) (c-args .j + 1) (c-args .arrows .now) (c-args .a) _ _ _ (c .enum-told .given .1) (c-task-line .ensures))
+returns c = λ k. made (subtask-bad (now (c .before .before .before .before .before .before .before .before .args .text)) (c .before .before .before .before .before .before .before .before .args .at) (c .before .before .before .before .before .before .before .before .args .j) (tasked (now (c .before .before .before .before .before .before .before .before .args .text)) (c .before .before .before .before .before .before .before .before .args .at) (c .before .before .before .before .before .before .before .before .args .j + 1) _ _ _ _ _ (c .before .enum-told .given .1) (c .before .before .before .before .task-line .ensures)) k) (c .refuse .ensures)
+
+refuse-requires-2 : tie.Need-refuse-requires-2
+refuse-requires-2 c κs = search needs
 
 same-length-2 : tie.Need-same-length-2
 same-length-2 c = search needs
 
 returns-2 : tie.Need-returns-2
-returns-2 c =
-    let c-args = c .before .before .before .before .before .before .before .before .before .args in
-    let c-t = c .before .before .t in
-    let c-task-line = c .before .before .before .before .before .task-line in
-    let h = tasked (c-args .text .now) (c-args .at) (c-args .j + 1) (c-args .arrows .now) (c-args .a) _ _ _ (c-t .given .1) (c-task-line .ensures) in
-    subtask-long (c-args .text .now) (c-args .at) (c-args .j) (c-args .arrows .now) (c-args .a) _ _ _ _ _ h (c .if1 .taken)
+returns-2 c = λ k. made (subtask-long (now (c .before .before .before .before .before .before .before .before .before .before .args .text)) (c .before .before .before .before .before .before .before .before .before .before .args .at) (c .before .before .before .before .before .before .before .before .before .before .args .j) (tasked (now (c .before .before .before .before .before .before .before .before .before .before .args .text)) (c .before .before .before .before .before .before .before .before .before .before .args .at) (c .before .before .before .before .before .before .before .before .before .before .args .j + 1) _ _ _ _ _ (c .before .before .before .line .given .1) (c .before .before .before .before .before .before .task-line .ensures)) (c .before .if1 .taken) k) (c .refuse2 .ensures)
 
 narrow-requires : tie.Need-narrow-requires
 narrow-requires c κs = omega arith
@@ -55,13 +54,7 @@ same-length-4 : tie.Need-same-length-4
 same-length-4 c = search needs
 
 returns-3 : tie.Need-returns-3
-returns-3 c =
-    let c-args = c .before .before .before .before .before .before .before .before .before .before .args in
-    let c-t = c .before .before .before .t in
-    let c-task-line = c .before .before .before .before .before .before .task-line in
-    let c-narrow = c .narrow in
-    let h = tasked (c-args .text .now) (c-args .at) (c-args .j + 1) (c-args .arrows .now) (c-args .a) _ _ _ (c-t .given .1) (c-task-line .ensures) in
-    subtask-is (c-args .text .now) (c-args .at) (c-args .j) (c-args .arrows .now) (c-args .a) _ _ _ _ _ h (c-args .times .now) (c-narrow .result) (omega arith) (c-narrow .ensures)
+returns-3 c = subtask-is (now (c .before .before .before .before .before .before .before .before .before .before .args .text)) (c .before .before .before .before .before .before .before .before .before .before .args .at) (c .before .before .before .before .before .before .before .before .before .before .args .j) (tasked (now (c .before .before .before .before .before .before .before .before .before .before .args .text)) (c .before .before .before .before .before .before .before .before .before .before .args .at) (c .before .before .before .before .before .before .before .before .before .before .args .j + 1) _ _ _ _ _ (c .before .before .before .line .given .1) (c .before .before .before .before .before .before .task-line .ensures)) (now (c .before .before .before .before .before .before .before .before .before .before .args .times)) (c .narrow .result) (omega arith) (c .narrow .ensures)
 
 pub take-subtask-spec : {M : Type 1} → statement M
 take-subtask-spec =
@@ -69,10 +62,12 @@ take-subtask-spec =
     (tie.spec
     add-task-line
     task-line-requires
-    enum-known-t
+    enum-known-line
     enum-told
+    refuse-requires
     same-length
     returns
+    refuse-requires-2
     same-length-2
     returns-2
     narrow-requires

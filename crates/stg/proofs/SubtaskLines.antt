@@ -11,9 +11,11 @@ use lib.Seq.{sets}
 use lib.Dec.{leb}
 use Rattle.terms.specs.Texts.{lines}
 use Rattle.text.specs.Rest.{line, later}
+use Rattle.terms.specs.Rows.{refusalOf}
 use Rattle.terms.specs.Readings.{Reading, refuse, graph, need, isTask, timeIn, predecessorsIn, arrowsInto, withTask, taskLines, exitLine}
-use Rattle.stg.specs.Told.{hold, TaskIs, Fails, Rows, outcome, OneSubtask, AllSubtasks}
-use Rattle.stg.proofs.OneArrow.{sets-append, map-hold}
+use Rattle.terms.specs.declared.Refusal.{Refusal}
+use Rattle.stg.specs.LinesRead.{hold, TaskIs, Fails, Rows, outcome, OneSubtask, AllSubtasks}
+use Rattle.stg.proofs.AddedArrows.{sets-append, map-hold}
 use Rattle.stg.proofs.OneLine.{top-line, rest-line}
 
 rows : (ts ts′ : List ℕ) (ar ar′ : List (List ℕ)) (j j′ a a′ : ℕ) → ts ≡ ts′ → ar ≡ ar′ → j ≡ j′ → a ≡ a′ → Rows ts ar j a ≡ Rows ts′ ar′ j′ a′
@@ -36,11 +38,11 @@ module _ (text : List ℕ) (at j : ℕ) where
   unfolding taskLines
   task-line k = rw (top-line (drop at text), rest-line (drop at text))
 
-  pub subtask-bad : isTask (j + 1) (line (drop at text)) ≡ false → (k : ℕ) → taskLines (j + 1) (suc k) (lines (drop at text)) ≡ refuse 22
+  pub subtask-bad : isTask (j + 1) (line (drop at text)) ≡ false → (k : ℕ) → taskLines (j + 1) (suc k) (lines (drop at text)) ≡ refuse (refusalOf 22)
   subtask-bad e k = task-line k ∙ rw e
 
-  module _ (ar : List (List ℕ)) (a t : ℕ) (below : Bool) (b e : ℕ) (ar′ : List (List ℕ)) (h : TaskIs text at (j + 1) ar a t below b e ar′) where
-    pub subtask-long : 65535 < t → (k : ℕ) → taskLines (j + 1) (suc k) (lines (drop at text)) ≡ refuse 24
+  module _ {ar : List (List ℕ)} {a t : ℕ} {below : Bool} {b e : ℕ} {ar′ : List (List ℕ)} (h : TaskIs text at (j + 1) ar a t below b e ar′) where
+    pub subtask-long : 65535 < t → (k : ℕ) → taskLines (j + 1) (suc k) (lines (drop at text)) ≡ refuse (refusalOf 24)
     subtask-long l k = task-line k ∙ rw (h .shaped, h .time, lt-leb t 65535 l)
 
     task-joins : t ≤ 65535 → (k : ℕ) → taskLines (j + 1) (suc k) (lines (drop at text)) ≡ withTask t (arrowsInto (j + 1) (predecessorsIn (line (drop at text)))) (taskLines (j + 1 + 1) k (lines (drop e text)))
@@ -64,35 +66,35 @@ tasks-none i ls = refl
 -- ---- all subtasks' lines
 
 -- the lines from here on leave the same as those from at on
-pub record Laying (text : List ℕ) (at n : ℕ) (ts : List ℕ) (ar : List (List ℕ)) (here a j : ℕ) (ts′ : List ℕ) (ar′ : List (List ℕ)) : Type 0 where
+pub record SubtasksLeft (text : List ℕ) (at n : ℕ) (ts : List ℕ) (ar : List (List ℕ)) (here a j : ℕ) (ts′ : List ℕ) (ar′ : List (List ℕ)) : Type 0 where
   pub does : outcome ts ar 0 0 (taskLines 1 n (lines (drop at text))) ≡ outcome ts′ ar′ j a (taskLines (j + 1) (n - j) (lines (drop here text)))
   pub inside : here ≤ length text
   pub few : a ≤ here
   pub upto : j ≤ n
 
-pub laying-none : (text : List ℕ) (at n : ℕ) (ts : List ℕ) (ar : List (List ℕ)) → at ≤ length text → Laying text at n ts ar at 0 0 ts ar
-laying-none text at n ts ar h =
+pub left-none : (text : List ℕ) (at n : ℕ) (ts : List ℕ) (ar : List (List ℕ)) → at ≤ length text → SubtasksLeft text at n ts ar at 0 0 ts ar
+left-none text at n ts ar h =
     let z : n - 0 ≡ n = omega arith in
     record { does = rw z; inside = h; few = omega arith; upto = omega arith }
 
-module _ (text : List ℕ) (at n : ℕ) (ts : List ℕ) (ar : List (List ℕ)) (here a j : ℕ) (ts′ : List ℕ) (ar′ : List (List ℕ)) (g : Laying text at n ts ar here a j ts′ ar′) where
-  left-one : j < n → n - j ≡ suc (n - (j + 1))
-  left-one h = omega arith
+module _ {text : List ℕ} {at n : ℕ} {ts : List ℕ} {ar : List (List ℕ)} {here a j : ℕ} {ts′ : List ℕ} {ar′ : List (List ℕ)} (g : SubtasksLeft text at n ts ar here a j ts′ ar′) where
+  one-left : j < n → n - j ≡ suc (n - (j + 1))
+  one-left h = omega arith
 
-  pub laying-bad : (c : ℕ) → j < n → ((k : ℕ) → taskLines (j + 1) (suc k) (lines (drop here text)) ≡ refuse c) → outcome ts ar 0 0 (taskLines 1 n (lines (drop at text))) ≡ Fails c
-  laying-bad c h f = g .does ∙ rw (left-one h, f)
+  pub left-bad : (c : Refusal) → j < n → ((k : ℕ) → taskLines (j + 1) (suc k) (lines (drop here text)) ≡ refuse c) → outcome ts ar 0 0 (taskLines 1 n (lines (drop at text))) ≡ Fails c
+  left-bad c h f = g .does ∙ rw (one-left h, f)
 
-  pub laying-more : (b e : ℕ) (ts″ : List ℕ) (ar″ : List (List ℕ)) → j < n → OneSubtask text here j a ts′ ar′ b e ts″ ar″ → Laying text at n ts ar e b (j + 1) ts″ ar″
-  laying-more b e ts″ ar″ h o =
+  pub left-more : {b e : ℕ} {ts″ : List ℕ} {ar″ : List (List ℕ)} → j < n → OneSubtask text here j a ts′ ar′ b e ts″ ar″ → SubtasksLeft text at n ts ar e b (j + 1) ts″ ar″
+  left-more h o =
       record {
-        does = g .does ∙ ap (λ (k : ℕ). outcome ts′ ar′ j a (taskLines (j + 1) k (lines (drop here text)))) (left-one h) ∙ o .does (n - (j + 1));
+        does = g .does ∙ ap (λ (k : ℕ). outcome ts′ ar′ j a (taskLines (j + 1) k (lines (drop here text)))) (one-left h) ∙ o .does (n - (j + 1));
         inside = o .inside;
         few = o .few;
         upto = omega arith;
       }
 
-  pub laying-end : n ≤ j → AllSubtasks text at n ts ar a here ts′ ar′
-  laying-end h = record { does = g .does ∙ end; inside = g .inside }
+  pub left-end : n ≤ j → AllSubtasks text at n ts ar a here ts′ ar′
+  left-end h = record { does = g .does ∙ end; inside = g .inside }
     where
       same : j ≡ n
       same = omega arith

@@ -1,9 +1,11 @@
 // The lines that give no subtask: the first, the two dummies', and those that may follow the last task's.
+use super::tasks::Progress;
 use super::tasks::Step;
 use super::tasks::Task;
 use super::tasks::task_line;
 use terms::Check;
 use terms::Refusal;
+use terms::refuse;
 use text::Next;
 use text::line_after;
 use text::next_number;
@@ -13,14 +15,9 @@ ghost use mathlib.Core.Bool.{cond};
 ghost use Prim.Native.Nat.{_≤_, _<_};
 ghost use lib.ListN.{length, drop};
 ghost use Rattle.terms.specs.Texts.{lines};
+ghost use Rattle.terms.specs.Rows.{refusalOf};
 ghost use Rattle.terms.specs.Readings.{refuse, graph, trailer, exitLine};
-ghost use Rattle.stg.specs.Told.{FirstOf, DummyOf, FollowerOf, OpeningOf, closed};
-
-// The number of subtasks on the first line, and the place where the next line begins.
-pub enum First {
-    Misshapen,
-    Is(usize, usize),
-}
+ghost use Rattle.stg.specs.LinesRead.{FirstOf, DummyOf, FollowerOf, OpeningOf, closed};
 
 // The place where the next line begins.
 pub enum Passage {
@@ -29,22 +26,22 @@ pub enum Passage {
 }
 
 // The first line, which is nothing but the number of subtasks.
-fn first_line(text: &[u8]) -> First
+fn first_line(text: &[u8]) -> Step
     ensures { λ r. ⌜ FirstOf (now (text .entry)) r ⌝ }
 {
     let Next::Field(n, past_n) = next_number(text, 0) else {
-        return First::Misshapen;
+        return Step::Refused(refuse(21));
     };
     let Next::LineEnd(e) = next_number(text, past_n) else {
-        return First::Misshapen;
+        return Step::Refused(refuse(21));
     };
     if n < 1 {
-        return First::Misshapen;
+        return Step::Refused(refuse(21));
     }
     if 256 < n {
-        return First::Misshapen;
+        return Step::Refused(refuse(21));
     }
-    First::Is(n, e)
+    Step::Counted(Progress { count: n, next: e })
 }
 
 // The line of dummy i: time 0, predecessors below i, so dummy 0 has none. Nobody reads the arrows.
@@ -53,16 +50,16 @@ fn dummy_line(text: &[u8], at: usize, i: usize) -> Passage
     ensures { λ r. ⌜ DummyOf (now (text .entry)) at i r ⌝ }
 {
     let mut spare = [[0u16; 2]; 1];
-    let Task::Is(t, below, _, e) = task_line(text, at, i, &mut spare, 0) else {
-        return Passage::Refused(Refusal { number: 22 });
+    let Task::Is(line) = task_line(text, at, i, &mut spare, 0) else {
+        return Passage::Refused(refuse(22));
     };
-    if t != 0 {
-        return Passage::Refused(Refusal { number: 23 });
+    if line.time != 0 {
+        return Passage::Refused(refuse(23));
     }
-    if !below {
-        return Passage::Refused(Refusal { number: 23 });
+    if !line.below {
+        return Passage::Refused(refuse(23));
     }
-    Passage::Passed(e)
+    Passage::Passed(line.next)
 }
 
 // A blank line or a comment, after the last task's line.
@@ -74,7 +71,7 @@ fn following_line(text: &[u8], at: usize) -> Passage
         return Passage::Passed(line_after(text, at));
     }
     let Next::LineEnd(e) = next_number(text, at) else {
-        return Passage::Refused(Refusal { number: 22 });
+        return Passage::Refused(refuse(22));
     };
     Passage::Passed(e)
 }
@@ -82,7 +79,7 @@ fn following_line(text: &[u8], at: usize) -> Passage
 // Whether only such lines stand from `at` on.
 fn may_end(text: &[u8], at: usize) -> bool
     requires { ⌜ at ≤ length (now text) ⌝ }
-    ensures { λ r. ⌜ trailer (lines (drop at (now (text .entry)))) ≡ cond r (graph [] []) (refuse 22) ⌝ }
+    ensures { λ r. ⌜ trailer (lines (drop at (now (text .entry)))) ≡ cond r (graph [] []) (refuse (refusalOf 22)) ⌝ }
 {
     let mut here = at;
     while here < text.len() {
@@ -103,10 +100,13 @@ pub fn take_opening(text: &[u8]) -> Step
     ensures { λ r. ⌜ OpeningOf (now (text .entry)) r ⌝ }
 {
     match first_line(text) {
-        First::Misshapen => Step::Refused(Refusal { number: 21 }),
-        First::Is(n, e) => match dummy_line(text, e, 0) {
+        Step::Refused(refusal) => Step::Refused(refusal),
+        Step::Counted(first) => match dummy_line(text, first.next, 0) {
             Passage::Refused(refusal) => Step::Refused(refusal),
-            Passage::Passed(f) => Step::Counted(n, f),
+            Passage::Passed(e) => Step::Counted(Progress {
+                count: first.count,
+                next: e,
+            }),
         },
     }
 }
@@ -122,7 +122,7 @@ pub fn take_closing(text: &[u8], at: usize, i: usize) -> Check
             if may_end(text, e) {
                 return Check::Sound;
             }
-            Check::Refused(Refusal { number: 22 })
+            Check::Refused(refuse(22))
         }
     }
 }

@@ -1,7 +1,7 @@
 // The places of the two rows past the last time and the last arrow, cleared.
 ghost use mathlib.Core.Path.{_≡_};
 ghost use Rattle.terms.specs.Readings.{noArrow};
-ghost use Rattle.stg.specs.Held.{keeping, ClearedPast};
+ghost use Rattle.stg.specs.RowsRead.{keeping, ClearedPast};
 
 fn clear_times(times: &mut [u16], from: usize)
     ensures { λ _. ⌜ now (times .exit) ≡ keeping from 0 (now (times .entry)) ⌝ }

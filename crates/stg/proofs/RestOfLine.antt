@@ -13,8 +13,8 @@ use Rattle.terms.specs.Texts.{allPass, proper, numbers}
 use Rattle.terms.specs.Readings.{arrowsInto}
 use Rattle.text.specs.Rest.{line, later}
 use Rattle.text.proofs.Standing.{Passed, Ended}
-use Rattle.stg.specs.Told.{held, Added, PredecessorsAre}
-use Rattle.stg.proofs.OneArrow.{added-counts, added-holds, added-few}
+use Rattle.stg.specs.LinesRead.{held, Added, PredecessorsAre}
+use Rattle.stg.proofs.AddedArrows.{added-counts, added-holds, added-few}
 
 -- of the predecessors ns of task i, k are passed and ms are left
 pub record Left (ns ms : List ℕ) (i : ℕ) (row : List (List ℕ)) (a k : ℕ) (below : Bool) (b : ℕ) (row′ : List (List ℕ)) : Type 0 where
@@ -45,7 +45,7 @@ left-less ns ls ms i row a k below b row′ o p still c row″ e s d =
 -- ---- the loop
 
 -- k numbers of the line were passed between at and here; they are told of where the rest of the line is well shaped
-pub record Along (text : List ℕ) (at i : ℕ) (row : List (List ℕ)) (a here k : ℕ) (below : Bool) (b : ℕ) (row′ : List (List ℕ)) : Type 0 where
+pub record Passing (text : List ℕ) (at i : ℕ) (row : List (List ℕ)) (a here k : ℕ) (below : Bool) (b : ℕ) (row′ : List (List ℕ)) : Type 0 where
   pub sound : proper (line (drop at text)) ≡ proper (line (drop here text))
   pub told : proper (line (drop here text)) ≡ true → Left (numbers (line (drop at text))) (numbers (line (drop here text))) i row a k below b row′
   pub next : later (drop at text) ≡ later (drop here text)
@@ -54,8 +54,8 @@ pub record Along (text : List ℕ) (at i : ℕ) (row : List (List ℕ)) (a here 
   pub fewer : k ≤ here
   pub few : b ≤ here
 
-pub along-none : (text : List ℕ) (at i : ℕ) (row : List (List ℕ)) (a : ℕ) → at ≤ length text → a ≤ at → Along text at i row a at 0 true a row
-along-none text at i row a h f =
+pub passing-none : (text : List ℕ) (at i : ℕ) (row : List (List ℕ)) (a : ℕ) → at ≤ length text → a ≤ at → Passing text at i row a at 0 true a row
+passing-none text at i row a h f =
     record {
       sound = refl;
       told = λ _. left-all (numbers (line (drop at text))) i row a;
@@ -66,10 +66,10 @@ along-none text at i row a h f =
       few = f;
     }
 
-module _ (text : List ℕ) (at i : ℕ) (row : List (List ℕ)) (a here k : ℕ) (below : Bool) (b : ℕ) (row′ : List (List ℕ)) (o : Along text at i row a here k below b row′) where
-  pub along-more : (p e : ℕ) (still : Bool) (c : ℕ) (row″ : List (List ℕ)) → Passed text here p e → still ≡ (below && ltb p i) → Added i (p ∷ []) b row′ c row″
-      → Along text at i row a e (k + 1) still c row″
-  along-more p e still c row″ q s d =
+module _ {text : List ℕ} {at i : ℕ} {row : List (List ℕ)} {a here k : ℕ} {below : Bool} {b : ℕ} {row′ : List (List ℕ)} (o : Passing text at i row a here k below b row′) where
+  pub passing-more : {p e : ℕ} {still : Bool} {c : ℕ} {row″ : List (List ℕ)} → Passed text here p e → still ≡ (below && ltb p i) → Added i (p ∷ []) b row′ c row″
+      → Passing text at i row a e (k + 1) still c row″
+  passing-more {p} {e} {still} {c} {row″} q s d =
       record {
         sound = o .sound ∙ q .sound;
         told = λ h. left-less _ _ _ i row a k below b row′ (o .told (q .sound ∙ h)) p still c row″ (q .some h) s d;
@@ -80,12 +80,12 @@ module _ (text : List ℕ) (at i : ℕ) (row : List (List ℕ)) (a here k : ℕ)
         few = omega (arith, added-few i p b row′ c row″ d);
       }
 
-  pub along-bad : proper (line (drop here text)) ≡ false → proper (line (drop at text)) ≡ false
-  along-bad e = o .sound ∙ e
+  pub passing-bad : proper (line (drop here text)) ≡ false → proper (line (drop at text)) ≡ false
+  passing-bad e = o .sound ∙ e
 
-  pub along-end : (e : ℕ) → Ended text here e → PredecessorsAre text at i row a k below b e row′
+  pub passing-end : {e : ℕ} → Ended text here e → PredecessorsAre text at i row a k below b e row′
   unfolding allPass arrowsInto
-  along-end e q =
+  passing-end q =
       let l = o .told (q .sound) in
       record {
         sound = o .sound ∙ q .sound;

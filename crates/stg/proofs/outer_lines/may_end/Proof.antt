@@ -7,11 +7,11 @@ use lib.ListN.{length, drop}
 use borrow.Author.Needs.{needs}
 use Rattle.terms.specs.Texts.{lines}
 use Rattle.terms.specs.Readings.{trailer}
-use Rattle.stg.specs.Told.{FollowerOf}
-use Rattle.stg.specs.declared.others.Passage.{Passage}
+use Rattle.stg.specs.LinesRead.{FollowerOf}
+use Rattle.stg.specs.declared.outer_lines.Passage.{Passage}
 use Rattle.stg.proofs.Followers.{trailer-more, trailer-stop, trailer-end}
-use Rattle.stg.proofs.others.may_end.Statement.{statement}
-use Rattle.stg.proofs.others.may_end.Tie as tie
+use Rattle.stg.proofs.outer_lines.may_end.Statement.{statement}
+use Rattle.stg.proofs.outer_lines.may_end.Tie as tie
 
 followed : (text : List ℕ) (at : ℕ) (r x : Passage) → r ≡ x → FollowerOf text at r → FollowerOf text at x
 followed text at r x e h = rw e at h

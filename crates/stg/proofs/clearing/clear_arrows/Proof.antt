@@ -5,9 +5,9 @@ use native.Mathlib.Omega.{arith}
 use lib.ListN.{length, length-set}
 use borrow.Author.Needs.{needs}
 use Rattle.terms.specs.Readings.{noArrow}
-use Rattle.stg.proofs.Filled.{upTo, none-filled, one-filled, all-filled}
-use Rattle.stg.proofs.rows.clear_arrows.Statement.{statement}
-use Rattle.stg.proofs.rows.clear_arrows.Tie as tie
+use Rattle.stg.proofs.ClearedRows.{upTo, none-filled, one-filled, all-filled}
+use Rattle.stg.proofs.clearing.clear_arrows.Statement.{statement}
+use Rattle.stg.proofs.clearing.clear_arrows.Tie as tie
 
 abbrev Inv-loop : tie.InvT-loop
 Inv-loop arrows₀ from i₀ arrows i = (from ≤ i) × (i - from ≤ length arrows₀ - from) × (arrows ≡ upTo noArrow from i arrows₀) × (length arrows ≡ length arrows₀)

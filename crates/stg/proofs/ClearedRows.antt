@@ -5,7 +5,7 @@ use Prim.Native.Nat.{ℕ, zero, suc, _+_, _-_, _≤_, _<_}
 use native.Mathlib.Omega.{arith}
 use native.Mathlib.Numerals.{add-one}
 use lib.ListN.{length, set, take, drop, replicate, take-append-drop, drop-of-length-le}
-use Rattle.stg.specs.Held.{keeping}
+use Rattle.stg.specs.RowsRead.{keeping}
 
 module _ {A : Type 0} (v : A) where
   -- the row, with the value from k up to i

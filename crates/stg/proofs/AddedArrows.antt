@@ -10,7 +10,7 @@ use lib.Dec.{eqb}
 use lib.ListN.{length, set, length-append, length-map}
 use lib.Seq.{sets, set-out}
 use Rattle.terms.specs.Readings.{arrowsInto}
-use Rattle.stg.specs.Told.{clipped, hold, held, Added}
+use Rattle.stg.specs.LinesRead.{clipped, hold, held, Added}
 
 -- ---- one predecessor
 

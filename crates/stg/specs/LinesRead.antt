@@ -1,4 +1,4 @@
--- What the reader's inner functions tell, of a text from a place on.
+-- What the reader's functions for one line and for several answer, of a text from a place on.
 use mathlib.Core.Path.{_≡_}
 use mathlib.Core.List.{List, [], _∷_, map}
 use mathlib.Core.Bool.{Bool, true, false, cond}
@@ -9,6 +9,7 @@ use lib.Seq.{sets}
 use Rattle.terms.specs.Graphs.{Among}
 use Rattle.terms.specs.Texts.{allPass, lines, proper, numbers}
 use Rattle.terms.specs.Readings.{Reading, refuse, graph, need, readLines, entryLine, taskLines, exitLine, isTask, isExitDummy, timeIn, predecessorsIn, mayFollow, arrowsInto}
+use Rattle.terms.specs.declared.Refusal.{Refusal}
 use Rattle.terms.specs.declared.Check.{Check}
 use Rattle.terms.specs.declared.Check.the-variants as check
 use Rattle.terms.specs.declared.Counts.{Counts}
@@ -20,10 +21,8 @@ use Rattle.stg.specs.declared.tasks.Task.{Task}
 use Rattle.stg.specs.declared.tasks.Task.the-variants as task
 use Rattle.stg.specs.declared.tasks.Step.{Step}
 use Rattle.stg.specs.declared.tasks.Step.the-variants as step
-use Rattle.stg.specs.declared.others.First.{First}
-use Rattle.stg.specs.declared.others.First.the-variants as first
-use Rattle.stg.specs.declared.others.Passage.{Passage}
-use Rattle.stg.specs.declared.others.Passage.the-variants as passage
+use Rattle.stg.specs.declared.outer_lines.Passage.{Passage}
+use Rattle.stg.specs.declared.outer_lines.Passage.the-variants as passage
 
 -- ---- one line
 
@@ -67,7 +66,8 @@ pub record PredecessorsAre (text : List ℕ) (at i : ℕ) (row : List (List ℕ)
 
 abbrev pub PredecessorsOf : List ℕ → ℕ → ℕ → List (List ℕ) → ℕ → List (List ℕ) → Predecessors → Type 0
 PredecessorsOf text at i row a row′ predecessors.Misshapen = proper (line (drop at text)) ≡ false
-PredecessorsOf text at i row a row′ (predecessors.Are k below b e) = PredecessorsAre text at i row a k below b e row′
+PredecessorsOf text at i row a row′ (predecessors.Are rest) =
+    PredecessorsAre text at i row a (rest .count) (rest .below) (rest .arrows) (rest .next) row′
 
 -- ---- the tasks' lines
 
@@ -81,16 +81,16 @@ pub record TaskIs (text : List ℕ) (at i : ℕ) (row : List (List ℕ)) (a t : 
 
 abbrev pub TaskOf : List ℕ → ℕ → ℕ → List (List ℕ) → ℕ → List (List ℕ) → Task → Type 0
 TaskOf text at i row a row′ task.Misshapen = isTask i (line (drop at text)) ≡ false
-TaskOf text at i row a row′ (task.Is t below b e) = TaskIs text at i row a t below b e row′
+TaskOf text at i row a row′ (task.Is line) = TaskIs text at i row a (line .time) (line .below) (line .arrows) (line .next) row′
 
 -- what lines leave: a refusal, or both rows and how many stand in each
 pub data Outcome : Type 0 where
-  Fails : ℕ → Outcome
+  Fails : Refusal → Outcome
   Rows : List ℕ → List (List ℕ) → ℕ → ℕ → Outcome
 
 -- a reading put down in rows that hold j times and a arrows already
 abbrev pub outcome : List ℕ → List (List ℕ) → ℕ → ℕ → Reading → Outcome
-outcome ts ar j a (refuse k) = Fails k
+outcome ts ar j a (refuse refusal) = Fails refusal
 outcome ts ar j a (graph us bs) = Rows (sets ts j us) (sets ar a (map hold bs)) (j + length us) (a + length bs)
 
 -- one line passed: the place after it, and how many arrows there are then
@@ -100,8 +100,8 @@ pub record OneSubtask (text : List ℕ) (at j a : ℕ) (ts : List ℕ) (ar : Lis
   pub few : b ≤ e
 
 abbrev pub SubtaskOf : List ℕ → ℕ → ℕ → ℕ → List ℕ → List (List ℕ) → List ℕ → List (List ℕ) → Step → Type 0
-SubtaskOf text at j a ts ar ts′ ar′ (step.Refused refusal) = (k : ℕ) → taskLines (j + 1) (suc k) (lines (drop at text)) ≡ refuse (refusal .number)
-SubtaskOf text at j a ts ar ts′ ar′ (step.Counted b e) = OneSubtask text at j a ts ar b e ts′ ar′
+SubtaskOf text at j a ts ar ts′ ar′ (step.Refused refusal) = (k : ℕ) → taskLines (j + 1) (suc k) (lines (drop at text)) ≡ refuse refusal
+SubtaskOf text at j a ts ar ts′ ar′ (step.Counted far) = OneSubtask text at j a ts ar (far .count) (far .next) ts′ ar′
 
 -- all subtasks' lines
 pub record AllSubtasks (text : List ℕ) (at n : ℕ) (ts : List ℕ) (ar : List (List ℕ)) (b e : ℕ) (ts′ : List ℕ) (ar′ : List (List ℕ)) : Type 0 where
@@ -109,8 +109,8 @@ pub record AllSubtasks (text : List ℕ) (at n : ℕ) (ts : List ℕ) (ar : List
   pub inside : e ≤ length text
 
 abbrev pub SubtasksOf : List ℕ → ℕ → ℕ → List ℕ → List (List ℕ) → List ℕ → List (List ℕ) → Step → Type 0
-SubtasksOf text at n ts ar ts′ ar′ (step.Refused refusal) = outcome ts ar 0 0 (taskLines 1 n (lines (drop at text))) ≡ Fails (refusal .number)
-SubtasksOf text at n ts ar ts′ ar′ (step.Counted b e) = AllSubtasks text at n ts ar b e ts′ ar′
+SubtasksOf text at n ts ar ts′ ar′ (step.Refused refusal) = outcome ts ar 0 0 (taskLines 1 n (lines (drop at text))) ≡ Fails refusal
+SubtasksOf text at n ts ar ts′ ar′ (step.Counted far) = AllSubtasks text at n ts ar (far .count) (far .next) ts′ ar′
 
 -- ---- the other lines
 
@@ -120,9 +120,9 @@ pub record FirstIs (text : List ℕ) (n e : ℕ) : Type 0 where
   pub inside : e ≤ length text
   pub size : Among 1 256 n
 
-abbrev pub FirstOf : List ℕ → First → Type 0
-FirstOf text first.Misshapen = readLines (lines text) ≡ refuse 21
-FirstOf text (first.Is n e) = FirstIs text n e
+abbrev pub FirstOf : List ℕ → Step → Type 0
+FirstOf text (step.Refused refusal) = readLines (lines text) ≡ refuse refusal
+FirstOf text (step.Counted far) = FirstIs text (far .count) (far .next)
 
 -- a dummy's line: time 0, predecessors below i
 abbrev pub dummy : ℕ → List ℕ → Reading → Reading
@@ -134,7 +134,7 @@ pub record Dummy (text : List ℕ) (at i e : ℕ) : Type 0 where
   pub inside : e ≤ length text
 
 abbrev pub DummyOf : List ℕ → ℕ → ℕ → Passage → Type 0
-DummyOf text at i (passage.Refused refusal) = (reading : Reading) → dummy i (line (drop at text)) reading ≡ refuse (refusal .number)
+DummyOf text at i (passage.Refused refusal) = (reading : Reading) → dummy i (line (drop at text)) reading ≡ refuse refusal
 DummyOf text at i (passage.Passed e) = Dummy text at i e
 
 -- a line that may stand after the last task's
@@ -155,18 +155,18 @@ pub record Opened (text : List ℕ) (n e : ℕ) : Type 0 where
   pub size : Among 1 256 n
 
 abbrev pub OpeningOf : List ℕ → Step → Type 0
-OpeningOf text (step.Refused refusal) = readLines (lines text) ≡ refuse (refusal .number)
-OpeningOf text (step.Counted n e) = Opened text n e
+OpeningOf text (step.Refused refusal) = readLines (lines text) ≡ refuse refusal
+OpeningOf text (step.Counted far) = Opened text (far .count) (far .next)
 
 -- what the lines after the last subtask's leave
 abbrev pub closed : Check → Reading
 closed check.Sound = graph [] []
-closed (check.Refused refusal) = refuse (refusal .number)
+closed (check.Refused refusal) = refuse refusal
 
 -- ---- all lines
 
 -- all lines of a reading leave a refusal; or n subtasks, 1..256, and their arrows in the two rows
 unfoldable pub Leaves : List ℕ → List (List ℕ) → Reading → List ℕ → List (List ℕ) → Counts → Type 0
-Leaves ts ar reading ts′ ar′ (counts.Refused refusal) = outcome ts ar 0 0 reading ≡ Fails (refusal .number)
+Leaves ts ar reading ts′ ar′ (counts.Refused refusal) = outcome ts ar 0 0 reading ≡ Fails refusal
 Leaves ts ar reading ts′ ar′ (counts.Read size) =
     (outcome ts ar 0 0 reading ≡ Rows ts′ ar′ (size .subtasks) (size .arrows)) × Among 1 256 (size .subtasks)

@@ -4,9 +4,9 @@ use Prim.Native.Nat.{_-_, _≤_}
 use native.Mathlib.Omega.{arith}
 use lib.ListN.{length, length-set}
 use borrow.Author.Needs.{needs}
-use Rattle.stg.proofs.Filled.{upTo, none-filled, one-filled, all-filled}
-use Rattle.stg.proofs.rows.clear_times.Statement.{statement}
-use Rattle.stg.proofs.rows.clear_times.Tie as tie
+use Rattle.stg.proofs.ClearedRows.{upTo, none-filled, one-filled, all-filled}
+use Rattle.stg.proofs.clearing.clear_times.Statement.{statement}
+use Rattle.stg.proofs.clearing.clear_times.Tie as tie
 
 abbrev Inv-loop : tie.InvT-loop
 Inv-loop times₀ from i₀ times i = (from ≤ i) × (i - from ≤ length times₀ - from) × (times ≡ upTo 0 from i times₀) × (length times ≡ length times₀)

@@ -1,4 +1,4 @@
--- What the two rows hold of a graph that was read, and what is told of it.
+-- What the two rows hold of a graph that was read, and what is answered of it.
 use mathlib.Core.Path.{_≡_}
 use mathlib.Core.List.{List, [], _∷_, _++_, map}
 use mathlib.Core.Bool.{_&&_}
@@ -15,7 +15,7 @@ use Rattle.terms.specs.declared.Counts.{Counts}
 use Rattle.terms.specs.declared.Counts.the-variants as counts
 use Rattle.terms.specs.declared.GraphSize.{GraphSize}
 use Rattle.terms.specs.declared.Refusal.{Refusal}
-use Rattle.stg.specs.Told.{hold}
+use Rattle.stg.specs.LinesRead.{hold}
 
 -- each arrow has two ends
 abbrev pub AllPairs : List (List ℕ) → Type 0
@@ -36,11 +36,11 @@ ChecksRead times n row a r = (arrows : List (List ℕ)) → Stored arrows a row 
 abbrev pub RoomOf : ℕ → ℕ → ℕ → Check → Type 0
 RoomOf timesRoom arrowsRoom size check.Sound = (256 ≤ timesRoom) × (2048 ≤ arrowsRoom) × (size ≤ 60000)
 RoomOf timesRoom arrowsRoom size (check.Refused refusal) =
-    (reading : Reading) → need (leb 256 timesRoom && leb 2048 arrowsRoom) 11 (need (leb size 60000) 20 reading) ≡ refuse (refusal .number)
+    (reading : Reading) → need (leb 256 timesRoom && leb 2048 arrowsRoom) 11 (need (leb size 60000) 20 reading) ≡ refuse refusal
 
 -- a refusal, whatever the rows hold then
 abbrev pub IsRefusalOf : Reading → Refusal → Type 0
-IsRefusalOf (refuse k) refusal = refusal .number ≡ k
+IsRefusalOf (refuse first) refusal = refusal ≡ first
 IsRefusalOf (graph times arrows) refusal = RefusedBy (timeAndArrowRows times arrows) refusal
 
 -- an accepted graph, which the rows begin with
@@ -54,7 +54,7 @@ pub record Begins (times : List ℕ) (arrows : List (List ℕ)) (timesRow : List
 -- the reply, but for what the rows hold past the graph, or with a refusal
 abbrev pub TellsOf : Reading → List ℕ → List (List ℕ) → Counts → Type 0
 TellsOf reading timesRow arrowsRow (counts.Refused refusal) = IsRefusalOf reading refusal
-TellsOf (refuse k) timesRow arrowsRow (counts.Read size) = ⊥
+TellsOf (refuse first) timesRow arrowsRow (counts.Read size) = ⊥
 TellsOf (graph times arrows) timesRow arrowsRow (counts.Read size) = Begins times arrows timesRow arrowsRow size
 
 -- how much of the two rows a reply keeps
