@@ -6,7 +6,10 @@ pub mod Faulty
 pub mod Repeated
 -- the order
 pub mod Marks
-pub mod Walked
+pub mod Walk
+pub mod WalkPasses
+pub mod WalkEnters
+pub mod WalkPlaces
 pub mod NoCycle
 -- C and P
 pub mod Weighed
