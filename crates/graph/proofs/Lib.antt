@@ -1,9 +1,8 @@
 -- the chains of arrows
 pub mod Chained
 -- scans
-pub mod Ends
-pub mod Faulty
-pub mod Repeated
+pub mod WrongEnds
+pub mod RepeatedArrows
 -- the order
 pub mod Marks
 pub mod Walk
@@ -12,7 +11,7 @@ pub mod WalkEnters
 pub mod WalkPlaces
 pub mod NoCycle
 -- C and P
-pub mod Weighed
+pub mod PathWeights
 -- the answers
 pub mod ArrowAnswers
 pub mod Replies

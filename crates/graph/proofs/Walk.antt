@@ -9,6 +9,7 @@ use Rattle.terms.specs.Graphs.{Among, fromOf, toOf}
 use Rattle.theory.proofs.Tallies.{tally, tally-none, tally-all}
 use Rattle.graph.specs.Chains.{Tidy, Chains}
 use Rattle.graph.specs.Ordered.{StandsBelow, Ordered}
+use Rattle.graph.proofs.Chained.{Along}
 use Rattle.graph.proofs.Marks.{new, unplaced, new-is, unplaced-is, unplaced-not, kept}
 
 module _ (n : ℕ) (arrows : List (List ℕ)) where
@@ -34,7 +35,7 @@ module _ (n : ℕ) (arrows : List (List ℕ)) where
   pub record At (marks : List ℕ) (u c depth : ℕ) : Type 0 where
     pub end : u ≢ 0 → Among 1 n u × (getD marks u 0 ≡ depth + 2)
     pub none : u ≡ 0 → (depth ≡ 0) × (tally new marks n ≤ n) × ((v : ℕ) → Among 1 n v → getD marks v 0 ≤ 1)
-    pub cursor : 0 < c → (c ≤ length arrows) × (toOf arrows (c - 1) ≡ u)
+    pub along : Along arrows u c
     pub served : Served marks u c
     pub room : u ≢ 0 → depth + 1 + tally new marks n ≤ n
 
@@ -94,7 +95,7 @@ module _ {n : ℕ} {arrows : List (List ℕ)} where
     at = record {
       end = λ h. absurd (h refl);
       none = λ _. (refl, omega (arith, tally-all new (replicate 257 1) n (λ v t. new-is _ (mark v t))), λ v t. omega (arith, mark v t));
-      cursor = λ l. absurd (omega (arith, l));
+      along = record { within = omega arith; here = λ l. absurd (omega (arith, l)) };
       served = λ k l e _. absurd (omega (arith, e, tidy .to-in k l .low));
       room = λ h. absurd (h refl);
     };

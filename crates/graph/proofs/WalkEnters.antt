@@ -13,9 +13,9 @@ use Rattle.theory.proofs.Stores.{read-set}
 use Rattle.theory.proofs.Tallies.{tally}
 use Rattle.graph.specs.Chains.{Last}
 use Rattle.graph.specs.Ordered.{StandsBelow}
+use Rattle.graph.proofs.Chained.{Looks, along-begin}
 use Rattle.graph.proofs.Marks.{new, unplaced, kept, fewer-new, same-unplaced}
 use Rattle.graph.proofs.Walk.{Climbs, Tried, State, left, still-climbs}
-use Rattle.graph.proofs.WalkPasses.{Looks}
 
 module _ {n : ℕ} {arrows : List (List ℕ)} {first next row marks stack : List ℕ} {depth m root u c : ℕ}
     (s : State n arrows first next row marks stack depth m root u c) where
@@ -47,7 +47,7 @@ module _ {n : ℕ} {arrows : List (List ℕ)} {first next row marks stack : List
         at = record {
           end = λ _. (t, getD-set-same marks p (d + 2) 0 inside);
           none = λ z. absurd (omega (arith, z, t .low));
-          cursor = λ l. (last .within, last .here l);
+          along = along-begin last;
           served = λ k l e b. absurd (last .gap k b l e);
           room = λ _. omega (arith, room, fewer);
         };
@@ -118,23 +118,26 @@ module _ {n : ℕ} {arrows : List (List ℕ)} {first next row marks stack : List
 
   -- ---- the arrow at the cursor comes from p, which is new: the way goes on to p
   module _ {p : ℕ} (at : Looks n arrows u c p) (isNew : getD marks p 0 ≡ 1) where
+    on-way : u ≢ 0
+    on-way z = omega (arith, z, at .to-is .low)
+
     fewer : tally new (set marks p (depth + 1 + 2)) n + 1 ≡ tally new marks n
-    fewer = fewer-new marks (depth + 1 + 2) (inside (at .is) isNew) (at .is) isNew (omega arith)
+    fewer = fewer-new marks (depth + 1 + 2) (inside (at .from-is) isNew) (at .from-is) isNew (omega arith)
 
     pub room-for : depth < 256
-    room-for = omega (arith, s .at .room (at .on-way), fewer, s .tidy .subtasks)
+    room-for = omega (arith, s .at .room on-way, fewer, s .tidy .subtasks)
 
     pub state-on : State n arrows first next row (set marks p (depth + 1 + 2)) (set stack depth c) (depth + 1) m root p (getD first p 0)
         × (left n arrows (set marks p (depth + 1 + 2)) root (getD first p 0) < left n arrows marks root c)
-    state-on = come-to (at .is) isNew (depth + 1) root (set stack depth c) (length-set stack depth c ∙ s .long-stack) climbs
-        (λ v t. omega (arith, s .way .deepest v t)) (omega (arith, s .at .room (at .on-way))) (omega arith)
+    state-on = come-to (at .from-is) isNew (depth + 1) root (set stack depth c) (length-set stack depth c ∙ s .long-stack) climbs
+        (λ v t. omega (arith, s .way .deepest v t)) (omega (arith, s .at .room on-way)) (omega arith)
         (record {
           within = s .tried .within;
           old = λ v t b. read-set (λ x. x ≢ 1) marks p (depth + 1 + 2) v lp (λ _ q. omega (arith, q)) (λ _. s .tried .old v t b);
         })
       where
         lp : p < length marks
-        lp = inside (at .is) isNew
+        lp = inside (at .from-is) isNew
 
         still : (v : ℕ) {x : ℕ} → x ≢ 1 → getD marks v 0 ≡ x → getD (set marks p (depth + 1 + 2)) v 0 ≡ x
         still v h z = kept marks (depth + 1 + 2) lp v (λ q. h (q ∙ isNew)) z
@@ -147,7 +150,7 @@ module _ {n : ℕ} {arrows : List (List ℕ)} {first next row marks stack : List
               some = omega (arith, at .some);
               inside = omega (arith, at .inside);
               above = ap (λ (y : ℕ). getD (set marks p (depth + 1 + 2)) y 0) (sym (at .begins)) ∙ getD-set-same marks p (depth + 1 + 2) 0 lp ∙ three depth;
-              below = still _ (λ q. omega (arith, q)) (ap (λ (y : ℕ). getD marks y 0) (at .arrives) ∙ s .at .end (at .on-way) .1);
+              below = still _ (λ q. omega (arith, q)) (ap (λ (y : ℕ). getD marks y 0) (at .arrives) ∙ s .at .end on-way .1);
               served = λ k l e b. still _ (λ q. omega (arith, q)) (s .at .served k l (e ∙ at .arrives) b);
             }))
           where

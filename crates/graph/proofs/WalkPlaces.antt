@@ -10,9 +10,8 @@ use borrow.Author.Count.{below-more}
 use Rattle.terms.specs.Graphs.{Among, fromOf, toOf}
 use Rattle.theory.proofs.Stores.{read-set}
 use Rattle.theory.proofs.Tallies.{tally}
-use Rattle.graph.specs.Chains.{Last}
 use Rattle.graph.specs.Ordered.{StandsBelow}
-use Rattle.graph.proofs.Chained.{passed-now}
+use Rattle.graph.proofs.Chained.{Looks, looks, along-next, next-less, passed-now}
 use Rattle.graph.proofs.Marks.{new, unplaced, kept, fewer-unplaced, same-new}
 use Rattle.graph.proofs.Walk.{Climbs, At, Rows, State, left, still-climbs}
 
@@ -108,7 +107,7 @@ module _ {n : ℕ} {arrows : List (List ℕ)} {first next row marks stack : List
   state-home z = go-on (omega (arith, z)) (omega (arith, ec)) (record {
     end = λ h. absurd (h refl);
     none = λ _. (z, omega (arith, s .at .room nu, same), λ v t. omega (arith, lower v t, z));
-    cursor = λ l. absurd (omega (arith, l, ec));
+    along = record { within = omega (arith, ec); here = λ l. absurd (omega (arith, l, ec)) };
     served = λ k l e _. absurd (omega (arith, e, s .tidy .to-in k l .low));
     room = λ h. absurd (h refl);
   })
@@ -124,21 +123,20 @@ module _ {n : ℕ} {arrows : List (List ℕ)} {first next row marks stack : List
     pub state-back : {v : ℕ} → v ≡ toOf arrows (a - 1)
         → State n arrows first next (set row m u) (set marks u 0) stack (depth - 1) (m + 1) root v (getD next (a - 1) 0)
         × (left n arrows (set marks u 0) root (getD next (a - 1) 0) < left n arrows marks root c)
-    state-back {v} ev = go-on refl (omega (arith, last .within, back-small)) (record {
-      end = λ _. (rw ev (s .tidy .to-in (a - 1) l), kept marks 0 inside v (λ q. omega (arith, q, high, nd)) (ap (λ (y : ℕ). getD marks y 0) ev ∙ top .below));
-      none = λ z. absurd (omega (arith, z, ev, s .tidy .to-in (a - 1) l .low));
-      cursor = λ b. (omega (arith, last .within, top .inside), last .here b ∙ sym ev);
-      served = λ k b e x. passed-now a k (sym ev) last x e (λ q. still _ (top .served k b (e ∙ ev) q))
-          (λ q. ap (λ (y : ℕ). getD (set marks u 0) y 0) (ap (λ (y : ℕ). fromOf arrows y) q ∙ from-u) ∙ placed);
+    state-back {v} ev = go-on refl (omega (arith, next-less (s .chains) at, at .few)) (record {
+      end = λ _. (at .to-is, kept marks 0 inside v (λ q. omega (arith, q, high, nd)) (ap (λ (y : ℕ). getD marks y 0) ev ∙ top .below));
+      none = λ z. absurd (omega (arith, z, at .to-is .low));
+      along = along-next (s .chains) at;
+      served = λ k b e x. passed-now (s .chains) at k x e (λ q. still _ (top .served k b (e ∙ ev) q)) (λ _ q. ap (λ (y : ℕ). getD (set marks u 0) y 0) q ∙ placed);
       room = λ _. omega (arith, s .at .room nu, same, nd);
     })
       where
         l : a - 1 < length arrows
         l = omega (arith, top .some, top .inside)
 
-        last : Last (toOf arrows) (toOf arrows (a - 1)) (a - 1) (getD next (a - 1) 0)
-        last = s .chains .step (a - 1) l
-
         -- where it comes from is u
         from-u : fromOf arrows (a - 1) ≡ u
         from-u = s .way .alone (fromOf arrows (a - 1)) u (s .tidy .from-in (a - 1) l) is (omega (arith, top .above)) (omega (arith, top .above, high, nd))
+
+        at : Looks n arrows v a u
+        at = looks (s .tidy) (record { within = top .inside; here = λ _. sym ev }) (λ z. omega (arith, z, top .some)) (sym from-u)

@@ -6,8 +6,9 @@ use lib.Dec.{lit<}
 use borrow.Author.Needs.{scaled-fits}
 use denote.Ref.{now}
 use Rattle.theory.proofs.Rounds.{both}
+use Rattle.graph.proofs.Chained.{Looks, looks}
 use Rattle.graph.proofs.Walk.{State, left, state-start, state-end}
-use Rattle.graph.proofs.WalkPasses.{Looks, looks, state-skip, state-cycle}
+use Rattle.graph.proofs.WalkPasses.{state-skip, state-cycle}
 use Rattle.graph.proofs.WalkEnters.{root-small, state-root, state-enter, room-for, state-on}
 use Rattle.graph.proofs.WalkPlaces.{end-small, state-home, back-small, state-back}
 use Rattle.graph.proofs.order.order_subtasks.Statement.{statement}
@@ -23,7 +24,7 @@ abbrev μ-loop : tie.MeasureT-loop
 -- what is known at each place: at an arrow from p
 at-arrow : (c : tie.After-source Inv-loop μ-loop)
     → Looks (c .before .before .before .args .n) (now (c .before .before .before .args .arrows)) (c .before .before .loop .u) (c .before .before .loop .c) (c .source .result .0)
-at-arrow c = looks (c .before .before .loop .inv) (c .before .if1 .taken) (c .source .ensures .0)
+at-arrow c = let s = c .before .before .loop .inv in looks (s .tidy) (s .at .along) (c .before .if1 .taken) (c .source .ensures .0)
 
 -- where p is new
 at-new : (c : tie.Then3 Inv-loop μ-loop) → c .before .before .before .before .loop .depth < 256
@@ -45,7 +46,7 @@ loop-holds : tie.Need-loop-holds Inv-loop μ-loop
 loop-holds c = state-start (c .pre .0) (c .pre .1 .0) (c .pre .1 .1) (length-replicate {A = ℕ} 256 0)
 
 source-requires : tie.Need-source-requires Inv-loop μ-loop
-source-requires c κs = (omega arith, c .before .loop .inv .at .cursor (omega arith) .0)
+source-requires c κs = (omega arith, c .before .loop .inv .at .along .within)
 
 mul-m : tie.Need-mul-m Inv-loop μ-loop
 mul-m c = scaled-fits _ 257 2 (at-arrow c .from-small) (lit< tt)

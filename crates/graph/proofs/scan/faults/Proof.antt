@@ -6,7 +6,7 @@ use lib.ListN.{length}
 use borrow.Author.Needs.{needs}
 use denote.Ref.{now}
 use Rattle.graph.specs.Scans.{Faults}
-use Rattle.graph.proofs.Faulty.{fault-small, faults-none, faults-more}
+use Rattle.graph.proofs.WrongEnds.{fault-small, faults-none, faults-more}
 use Rattle.graph.proofs.scan.faults.Statement.{statement}
 use Rattle.graph.proofs.scan.faults.Tie as tie
 
