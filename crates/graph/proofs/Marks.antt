@@ -50,7 +50,9 @@ module _ (marks : List ℕ) {p : ℕ} (e : ℕ) (l : p < length marks) where
     fewer-new z h = omega (arith, tally-set new marks p e n t l, new-is (getD marks p 0) z, new-not e (λ q. omega (arith, q, h)))
 
     pub same-unplaced : getD marks p 0 ≡ 1 → 2 ≤ e → tally unplaced (set marks p e) n ≡ tally unplaced marks n
-    same-unplaced z h = omega (arith, tally-set unplaced marks p e n t l, unplaced-is (getD marks p 0) (λ q. omega (arith, q, z)), unplaced-is e (λ q. omega (arith, q, h)))
+    same-unplaced z h =
+        let was = unplaced-is (getD marks p 0) (λ q. omega (arith, q, z)) in
+        omega (arith, tally-set unplaced marks p e n t l, was, unplaced-is e (λ q. omega (arith, q, h)))
 
     -- p was on the way, and is placed now
     pub fewer-unplaced : 2 ≤ getD marks p 0 → e ≡ 0 → tally unplaced (set marks p e) n + 1 ≡ tally unplaced marks n

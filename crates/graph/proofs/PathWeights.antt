@@ -48,7 +48,8 @@ module _ {n : ℕ} {arrows : List (List ℕ)} {first next : List ℕ} where
       chains = r .chains;
       along = along-next (r .chains) at;
       latest = record {
-        most = λ k a l e. passed-now (r .chains) at k a e (λ b. omega (arith, r .latest .most k b l e, big)) (λ _ q. omega (arith, big, ap (λ (y : ℕ). getD finish y 0) q));
+        most = λ k a l e. passed-now (r .chains) at k a e (λ b. omega (arith, r .latest .most k b l e, big))
+            (λ _ q. omega (arith, big, ap (λ (y : ℕ). getD finish y 0) q));
         reached = ⊎-elim
             (λ e. ⊎-elim (λ z. inl (e ∙ z)) (λ w. inr (w .0, w .1, e ∙ w .2)) (r .latest .reached))
             (λ e. inr (p, record { place = c - 1; inside = at .inside; begins = sym (at .begins); arrives = at .arrives }, e))
@@ -101,7 +102,10 @@ module _ {times : List ℕ} {arrows : List (List ℕ)} {row : List ℕ} where
 
       module _ {before : ℕ} (latest : Latest arrows finish v 0 before) where
         before-small : before ≤ 65535 * j
-        before-small = ⊎-elim (λ e. omega (arith, e)) (λ r. omega (arith, r .2, w .small (r .0) (omega (arith, r .1 .begins, w .tidy .from-in (r .1 .place) (r .1 .inside) .high, w .tidy .subtasks)))) (latest .reached)
+        before-small = ⊎-elim (λ e. omega (arith, e))
+            (λ r. let from = w .tidy .from-in (r .1 .place) (r .1 .inside) in
+            omega (arith, r .2, w .small (r .0) (omega (arith, r .1 .begins, from .high, w .tidy .subtasks))))
+            (latest .reached)
 
         -- a time more still fits
         pub time-fits : before + 65536 ≤ 4294967296
@@ -115,14 +119,16 @@ module _ {times : List ℕ} {arrows : List (List ℕ)} {row : List ℕ} where
           order = w .order;
           long = length-set finish v (before + time) ∙ w .long;
           upto = omega (arith, l);
-          small = λ x b. read-set (λ y. y ≤ 65535 * (j + 1)) finish v (before + time) x lv (λ _. omega (arith, before-small, told .small)) (λ _. omega (arith, w .small x b));
+          small = λ x b. read-set (λ y. y ≤ 65535 * (j + 1)) finish v (before + time) x lv
+              (λ _. omega (arith, before-small, told .small)) (λ _. omega (arith, w .small x b));
           path = below-more (λ i. (path : PathTo times arrows (getD row i 0)) × (weight path ≡ getD finish' (getD row i 0) 0)) j
               (λ i b. let p = w .path i b in (p .0, p .1 ∙ sym (kept i b)))
               (rw (← ev) new-path);
           own = below-more (λ i. timeOf times (getD row i 0) ≤ getD finish' (getD row i 0) 0) j
               (λ i b. omega (arith, w .own i b, kept i b))
               (rw (← ev) (omega (arith, is-new, et)));
-          past = below-more (λ i. (k : ℕ) → k < length arrows → toOf arrows k ≡ getD row i 0 → getD finish' (fromOf arrows k) 0 + timeOf times (getD row i 0) ≤ getD finish' (getD row i 0) 0) j
+          past = below-more (λ i. (k : ℕ) → k < length arrows → toOf arrows k ≡ getD row i 0
+              → getD finish' (fromOf arrows k) 0 + timeOf times (getD row i 0) ≤ getD finish' (getD row i 0) 0) j
               (λ i b k lk e. let s = w .order .first k lk i (omega (arith, b, l)) (sym e) in
               omega (arith, w .past i b k lk e, kept i b, kept-at (fromOf arrows k) (s .place) (omega (arith, s .below, b)) (s .is)))
               (rw (← ev) (λ k lk e. let s = w .order .first k lk j l (sym ev ∙ sym e) in
@@ -130,7 +136,8 @@ module _ {times : List ℕ} {arrows : List (List ℕ)} {row : List ℕ} where
           over = below-more (λ i. getD finish' (getD row i 0) 0 ≤ most') j
               (λ i b. omega (arith, w .over i b, kept i b, big))
               (rw (← ev) (omega (arith, is-new, big)));
-          reached = λ _. ⊎-elim reached-old (λ e. (j, omega arith, e ∙ sym is-new ∙ ap (λ (y : ℕ). getD finish' y 0) ev)) (one-of most (before + time) most' big);
+          reached = λ _. ⊎-elim reached-old (λ e. (j, omega arith, e ∙ sym is-new ∙ ap (λ (y : ℕ). getD finish' y 0) ev))
+              (one-of most (before + time) most' big);
           begins = λ e. absurd (omega (arith, e));
         }
           where
@@ -187,12 +194,13 @@ module _ {times : List ℕ} {arrows : List (List ℕ)} {row : List ℕ} where
       most = λ j path. omega (arith, bounded path, at j (end-of path) .1);
     }
       where
-        -- subtask j has an entry
-        at : (j : ℕ) → IsSubtask times j → (timeOf times j ≤ getD finish j 0) × (getD finish j 0 ≤ most)
-            × ((k : ℕ) → k < length arrows → toOf arrows k ≡ j → getD finish (fromOf arrows k) 0 + timeOf times j ≤ getD finish j 0)
-        at j t =
-            let s = w .order .each j t in
-            (rw (s .is) at (w .own (s .place) (omega (arith, s .below, all))), rw (s .is) at (w .over (s .place) (omega (arith, s .below, all))), rw (s .is) at (w .past (s .place) (omega (arith, s .below, all))))
+        -- subtask v has an entry
+        at : (v : ℕ) → IsSubtask times v → (timeOf times v ≤ getD finish v 0) × (getD finish v 0 ≤ most)
+            × ((k : ℕ) → k < length arrows → toOf arrows k ≡ v → getD finish (fromOf arrows k) 0 + timeOf times v ≤ getD finish v 0)
+        at v t =
+            let s = w .order .each v t in
+            let l : s .place < j = omega (arith, s .below, all) in
+            (rw (s .is) at (w .own (s .place) l), rw (s .is) at (w .over (s .place) l), rw (s .is) at (w .past (s .place) l))
 
         end-of : {j : ℕ} → PathTo times arrows j → IsSubtask times j
         end-of (alone j s) = s

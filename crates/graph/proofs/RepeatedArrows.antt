@@ -85,7 +85,8 @@ module _ {n : ℕ} {arrows : List (List ℕ)} {first next : List ℕ} where
           kept = λ _ y b e. absurd (omega (arith, e, r .upto y b));
           near = λ k a l e. absurd (last .gap k a l e);
           sound = r .sound;
-          old = λ j l b g. ⊎-elim (λ q. r .new j l q g (omega (arith, ec))) (λ q. r .old j l q g) (eq-or-lt-of-le {n = toOf arrows j} {m = v} (omega (arith, b)));
+          old = λ j l b g. ⊎-elim (λ q. r .new j l q g (omega (arith, ec))) (λ q. r .old j l q g)
+              (eq-or-lt-of-le {n = toOf arrows j} {m = v} (omega (arith, b)));
           new = λ j l e g b. absurd (last .gap (g .earlier) b (omega (arith, g .before, l)) (g .sameTo ∙ e));
         },
         omega (arith, r .within, h, last .within, r .tidy .few),
@@ -117,7 +118,8 @@ module _ {n : ℕ} {arrows : List (List ℕ)} {first next : List ℕ} where
               (λ z. passed-now (r .chains) at k a e (λ b. r .near k b l e) (λ _ q. absurd (z q)));
           sound = λ l. ⊎-elim (λ e. rw e (r .sound (omega (arith, e, l)))) (λ e. sound-new (omega (arith, e, l)) e) (early .one);
           old = λ j l b g. keep j (r .old j l b g);
-          new = λ j l e g b. passed-now (r .chains) at (g .earlier) b (g .sameTo ∙ e) (λ q. keep j (r .new j l e g q)) (λ q z. repeated j l e g q (sym (g .sameFrom) ∙ z));
+          new = λ j l e g b. passed-now (r .chains) at (g .earlier) b (g .sameTo ∙ e) (λ q. keep j (r .new j l e g q))
+              (λ q z. repeated j l e g q (sym (g .sameFrom) ∙ z));
         },
         omega (arith, less),
       )

@@ -2,13 +2,13 @@
 use mathlib.Core.Path.{_≡_, sym, ap, _∙_}
 use mathlib.Core.Logic.{_≢_, ⊎-elim}
 use mathlib.Core.List.{List}
-use Prim.Native.Nat.{ℕ, _+_, _-_, _≤_, _<_}
+use Prim.Native.Nat.{ℕ, _+_, _≤_, _<_}
 use native.Mathlib.Omega.{arith}
 use native.Mathlib.Nat.{eq-or-lt-of-le}
 use lib.ListN.{length, getD, set, length-set}
 use lib.Seq.{getD-set-same, getD-set-other}
 use borrow.Author.Count.{below-more}
-use Rattle.terms.specs.Graphs.{Among, fromOf, toOf}
+use Rattle.terms.specs.Graphs.{Among, toOf}
 use Rattle.theory.proofs.Stores.{read-set}
 use Rattle.theory.proofs.Tallies.{tally}
 use Rattle.graph.specs.Chains.{Last}
@@ -40,7 +40,8 @@ module _ {n : ℕ} {arrows : List (List ℕ)} {first next row marks stack : List
           climbs = climbs;
           alone = λ v w tv tw. read-set (λ x. 2 ≤ x → x ≡ getD marks′ w 0 → v ≡ w) marks p (d + 2) v inside
               (λ qv _. read-set (λ y. d + 2 ≡ y → v ≡ w) marks p (d + 2) w inside (λ qw _. qv ∙ sym qw) (λ _ z. absurd (omega (arith, z, low w tw))))
-              (λ qv b. read-set (λ y. getD marks v 0 ≡ y → v ≡ w) marks p (d + 2) w inside (λ _ z. absurd (omega (arith, z, low v tv))) (λ _. s .way .alone v w tv tw b));
+              (λ qv b. read-set (λ y. getD marks v 0 ≡ y → v ≡ w) marks p (d + 2) w inside
+              (λ _ z. absurd (omega (arith, z, low v tv))) (λ _. s .way .alone v w tv tw b));
           deepest = λ v t. read-set (λ x. x ≤ d + 2) marks p (d + 2) v inside (λ _. omega arith) (λ _. omega (arith, low v t));
         };
         -- no arrow into it is passed
@@ -110,10 +111,12 @@ module _ {n : ℕ} {arrows : List (List ℕ)} {first next row marks stack : List
         → State n arrows first next row (set marks (root + 1) 2) stack depth m (root + 1) (root + 1) (getD first (root + 1) 0)
         × (left n arrows (set marks (root + 1) 2) (root + 1) (getD first (root + 1) 0) < left n arrows marks root c)
     state-enter isNew = rw (s .at .none eu .0)
-        (come-to root-is isNew 0 (root + 1) stack (s .long-stack) (λ i l. absurd (omega (arith, l))) (λ v t. omega (arith, s .at .none eu .2 v t)) (omega (arith, s .at .none eu .1)) (omega arith)
+        (come-to root-is isNew 0 (root + 1) stack (s .long-stack) (λ i l. absurd (omega (arith, l)))
+        (λ v t. omega (arith, s .at .none eu .2 v t)) (omega (arith, s .at .none eu .1)) (omega arith)
         (record {
           within = root-is .high;
-          old = λ v t l. read-set (λ x. x ≢ 1) marks (root + 1) 2 v (inside root-is isNew) (λ _ q. omega (arith, q)) (λ q. s .tried .old v t (omega (arith, l, q)));
+          old = λ v t l. read-set (λ x. x ≢ 1) marks (root + 1) 2 v (inside root-is isNew)
+              (λ _ q. omega (arith, q)) (λ q. s .tried .old v t (omega (arith, l, q)));
         }))
 
   -- ---- the arrow at the cursor comes from p, which is new: the way goes on to p

@@ -3,7 +3,7 @@
 use mathlib.Core.Path.{_≡_, refl, sym, ap, _∙_, subst}
 use mathlib.Core.Logic.{_≢_}
 use mathlib.Core.List.{List}
-use Prim.Native.Nat.{ℕ, zero, suc, _+_, _-_, _≤_, _<_}
+use Prim.Native.Nat.{ℕ, zero, suc, _+_, _-_, _<_}
 use native.Mathlib.Omega.{arith}
 use lib.ListN.{length, getD}
 use Rattle.terms.specs.Graphs.{Among, fromOf, toOf, LeadsTo, step, more}
@@ -14,7 +14,8 @@ module _ {n : ℕ} {arrows : List (List ℕ)} {first next row marks stack : List
     (s : State n arrows first next row marks stack depth m root u c) (at : Looks n arrows u c p) where
   -- p is placed
   pub state-skip : getD marks p 0 ≡ 0
-      → State n arrows first next row marks stack depth m root u (getD next (c - 1) 0) × (left n arrows marks root (getD next (c - 1) 0) < left n arrows marks root c)
+      → State n arrows first next row marks stack depth m root u (getD next (c - 1) 0)
+      × (left n arrows marks root (getD next (c - 1) 0) < left n arrows marks root c)
   unfolding left
   state-skip z = (
     record {

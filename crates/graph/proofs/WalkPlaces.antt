@@ -76,7 +76,8 @@ module _ {n : ℕ} {arrows : List (List ℕ)} {first next row marks stack : List
 
   -- the walk goes on at u′ and c′, with a way that is one arrow shorter
   go-on : {d u′ c′ : ℕ} → d ≡ depth - 1 → c′ ≤ 2048 → At n arrows (set marks u 0) u′ c′ d
-      → State n arrows first next (set row m u) (set marks u 0) stack d (m + 1) root u′ c′ × (left n arrows (set marks u 0) root c′ < left n arrows marks root c)
+      → State n arrows first next (set row m u) (set marks u 0) stack d (m + 1) root u′ c′
+      × (left n arrows (set marks u 0) root c′ < left n arrows marks root c)
   unfolding left
   go-on ed few at = (
     record {
@@ -85,7 +86,8 @@ module _ {n : ℕ} {arrows : List (List ℕ)} {first next row marks stack : List
       long-marks = length-set marks u 0 ∙ s .long-marks;
       long-stack = s .long-stack;
       way = record {
-        climbs = λ i l. still-climbs 0 inside (λ q. omega (arith, q, high)) (λ q. omega (arith, q, high, l, ed)) (λ q. omega (arith, q, high, l, ed)) (s .way .climbs i (omega (arith, l, ed)));
+        climbs = λ i l. still-climbs 0 inside (λ q. omega (arith, q, high)) (λ q. omega (arith, q, high, l, ed)) (λ q. omega (arith, q, high, l, ed))
+            (s .way .climbs i (omega (arith, l, ed)));
         alone = λ v w tv tw. read-set (λ x. 2 ≤ x → x ≡ getD (set marks u 0) w 0 → v ≡ w) marks u 0 v inside
             (λ _ b. absurd (omega (arith, b)))
             (λ _ b. read-set (λ y. getD marks v 0 ≡ y → v ≡ w) marks u 0 w inside (λ _ z. absurd (omega (arith, z, b))) (λ _. s .way .alone v w tv tw b));
@@ -103,7 +105,8 @@ module _ {n : ℕ} {arrows : List (List ℕ)} {first next row marks stack : List
 
   -- ---- it was the last on the way
   pub state-home : depth ≡ 0
-      → State n arrows first next (set row m u) (set marks u 0) stack depth (m + 1) root 0 c × (left n arrows (set marks u 0) root c < left n arrows marks root c)
+      → State n arrows first next (set row m u) (set marks u 0) stack depth (m + 1) root 0 c
+      × (left n arrows (set marks u 0) root c < left n arrows marks root c)
   state-home z = go-on (omega (arith, z)) (omega (arith, ec)) (record {
     end = λ h. absurd (h refl);
     none = λ _. (z, omega (arith, s .at .room nu, same), λ v t. omega (arith, lower v t, z));
@@ -127,7 +130,8 @@ module _ {n : ℕ} {arrows : List (List ℕ)} {first next row marks stack : List
       end = λ _. (at .to-is, kept marks 0 inside v (λ q. omega (arith, q, high, nd)) (ap (λ (y : ℕ). getD marks y 0) ev ∙ top .below));
       none = λ z. absurd (omega (arith, z, at .to-is .low));
       along = along-next (s .chains) at;
-      served = λ k b e x. passed-now (s .chains) at k x e (λ q. still _ (top .served k b (e ∙ ev) q)) (λ _ q. ap (λ (y : ℕ). getD (set marks u 0) y 0) q ∙ placed);
+      served = λ k b e x. passed-now (s .chains) at k x e (λ q. still _ (top .served k b (e ∙ ev) q))
+          (λ _ q. ap (λ (y : ℕ). getD (set marks u 0) y 0) q ∙ placed);
       room = λ _. omega (arith, s .at .room nu, same, nd);
     })
       where

@@ -39,7 +39,9 @@ enum-told-2 : tie.Need-enum-told-2
 enum-told-2 c = search needs
 
 check-arrows-requires : tie.Need-check-arrows-requires
-check-arrows-requires c κs = ((subtasks (c .before .before .before .before .before .before), size (c .before .before .before)), c .before .before .before .before .before .before .before .before .before .before .pre)
+check-arrows-requires c κs =
+    let three = c .before .before .before in
+    ((subtasks (three .before .before .before), size three), three .before .before .before .before .before .before .before .pre)
 
 returns : tie.Need-returns
 unfolding graphRows IsCheck
@@ -53,7 +55,9 @@ returns-2 c =
 
 returns-3 : tie.Need-returns-3
 unfolding graphRows
-returns-3 c = finds-later (subtaskRows _) (subtasks (c .before .before .before .before .before .before .before)) (finds-later (sizeRows _) (size (c .before .before .before .before)) (c .check-arrows .ensures))
+returns-3 c =
+    let three = c .before .before .before .before in
+    finds-later (subtaskRows _) (subtasks (three .before .before .before)) (finds-later (sizeRows _) (size three) (c .check-arrows .ensures))
 
 pub check-and-order-spec : {M : Type 1} → statement M
 check-and-order-spec =

@@ -13,7 +13,8 @@ joins : (c : tie.Else1) → Joined (now (c .before .before .before .args .times)
 joins c = joined _ _ (c .before .before .before .pre .0) (c .before .faults .ensures) (c .if1 .left)
 
 -- nor 6
-once : (c : tie.Else3) → Before 7 (arrowRows (now (c .before .before .before .before .before .before .before .before .before .before .args .times)) (now (c .before .before .before .before .before .before .before .before .before .before .args .arrows)))
+once : (c : tie.Else3)
+    → let args = c .before .before .before .before .before .before .before .before .before .before .args in Before 7 (arrowRows (now (args .times)) (now (args .arrows)))
 once c = before-7 _ _ (joins (c .before .before .before .before .before .before .before)) (c .before .first-repeat .ensures) (c .if3 .left)
 
 faults-requires : tie.Need-faults-requires
@@ -34,7 +35,8 @@ refuse-requires-2 c κs = search needs
 returns-2 : tie.Need-returns-2
 returns-2 c =
     let wrong = c .before .before .before in
-    refused (refused-5 _ _ (c .before .before .first-outside .ensures) (wrong .before .faults .ensures) (wrong .if1 .taken) (c .before .if2 .left) (c .refuse2 .ensures))
+    let itself = refused-5 _ _ (c .before .before .first-outside .ensures) (wrong .before .faults .ensures) (wrong .if1 .taken) in
+    refused (itself (c .before .if2 .left) (c .refuse2 .ensures))
 
 chain-requires : tie.Need-chain-requires
 chain-requires c κs =
@@ -48,7 +50,9 @@ refuse-requires-3 : tie.Need-refuse-requires-3
 refuse-requires-3 c κs = search needs
 
 returns-3 : tie.Need-returns-3
-returns-3 c = refused (refused-6 _ _ (joins (c .before .before .before .before .before .before .before .before)) (c .before .before .first-repeat .ensures) (c .before .if3 .taken) (c .refuse3 .ensures))
+returns-3 c =
+    let tested = c .before .before in
+    refused (refused-6 _ _ (joins (tested .before .before .before .before .before .before)) (tested .first-repeat .ensures) (c .before .if3 .taken) (c .refuse3 .ensures))
 
 order-subtasks-requires : tie.Need-order-subtasks-requires
 order-subtasks-requires c κs =
@@ -57,15 +61,18 @@ order-subtasks-requires c κs =
 
 returns-4 : tie.Need-returns-4
 returns-4 c =
-    let chained = c .before .before .before .before .before .before .before .before .before in
+    let tested = c .before .before .before .before .before in
+    let chained = tested .before .before .before .before in
     let ordered = rw (c .if4 .taken) at (c .before .order-subtasks .ensures) in
-    sound (accepted _ _ (once (c .before .before .before .before .before)) (joins (chained .before .before .before) .tidy) ordered) (chained .chain .ensures) ordered
+    sound (accepted _ _ (once tested) (joins (chained .before .before .before) .tidy) ordered) (chained .chain .ensures) ordered
 
 refuse-requires-4 : tie.Need-refuse-requires-4
 refuse-requires-4 c κs = search needs
 
 returns-5 : tie.Need-returns-5
-returns-5 c = refused (refused-7 _ _ (once (c .before .before .before .before .before .before)) (rw (c .before .if4 .left) at (c .before .before .order-subtasks .ensures)) (c .refuse4 .ensures))
+returns-5 c =
+    let cycle = rw (c .before .if4 .left) at (c .before .before .order-subtasks .ensures) in
+    refused (refused-7 _ _ (once (c .before .before .before .before .before .before)) cycle (c .refuse4 .ensures))
 
 pub check-arrows-spec : {M : Type 1} → statement M
 check-arrows-spec =

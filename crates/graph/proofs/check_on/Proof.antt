@@ -25,7 +25,9 @@ returns c = refused-first (graphRows _ _) _ _ (rw (c .before .refusal .given .1)
 
 returns-2 : tie.Need-returns-2
 unfolding onRows IsCheck
-returns-2 c = check-later (graphRows _ _) (processorRows _) (c .check-processors .result) (rw (c .before .enum-told .given .1) at (c .before .before .before .check .ensures)) (c .check-processors .ensures)
+returns-2 c =
+    let accepts = rw (c .before .enum-told .given .1) at (c .before .before .before .check .ensures) in
+    check-later (graphRows _ _) (processorRows _) (c .check-processors .result) accepts (c .check-processors .ensures)
 
 pub check-on-spec : {M : Type 1} → statement M
 check-on-spec =

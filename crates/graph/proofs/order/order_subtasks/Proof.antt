@@ -23,7 +23,7 @@ abbrev μ-loop : tie.MeasureT-loop
 
 -- what is known at each place: at an arrow from p
 at-arrow : (c : tie.After-source Inv-loop μ-loop)
-    → Looks (c .before .before .before .args .n) (now (c .before .before .before .args .arrows)) (c .before .before .loop .u) (c .before .before .loop .c) (c .source .result .0)
+    → let loop = c .before .before in Looks (loop .before .args .n) (now (loop .before .args .arrows)) (loop .loop .u) (loop .loop .c) (c .source .result .0)
 at-arrow c = let s = c .before .before .loop .inv in looks (s .tidy) (s .at .along) (c .before .if1 .taken) (c .source .ensures .0)
 
 -- where p is new
@@ -36,7 +36,9 @@ at-end c = end-small (c .before .before .loop .inv) (c .before .if1 .left) (c .i
 
 -- on the way back
 at-back : (c : tie.After-usize-from-u16 Inv-loop μ-loop) → (1 ≤ c .usize-from-u16 .result) × (c .usize-from-u16 .result ≤ 2048)
-at-back c = back-small (c .before .before .before .before .loop .inv) (c .before .before .before .if1 .left) (c .before .before .if4 .taken) (c .before .if5 .left) (c .usize-from-u16 .ensures .0)
+at-back c =
+    let end = c .before .before in
+    back-small (end .before .before .loop .inv) (end .before .if1 .left) (end .if4 .taken) (c .before .if5 .left) (c .usize-from-u16 .ensures .0)
 
 -- at the next root
 at-root : (c : tie.Else6 Inv-loop μ-loop) → c .before .before .before .loop .root + 1 < 257
@@ -58,7 +60,9 @@ chain-next-requires : tie.Need-chain-next-requires Inv-loop μ-loop
 chain-next-requires c κs = (at-arrow (c .before) .some, at-arrow (c .before) .few)
 
 skips : tie.Need-loop-again Inv-loop μ-loop × tie.Need-loop-less Inv-loop μ-loop
-skips = both (λ c. rw (c .chain-next .ensures) (state-skip (c .before .before .before .before .loop .inv) (at-arrow (c .before .before)) (c .before .if2 .taken)))
+skips = both (λ c.
+    let arrow = c .before .before in
+    rw (c .chain-next .ensures) (state-skip (arrow .before .before .loop .inv) (at-arrow arrow) (c .before .if2 .taken)))
 
 cast-stack : tie.Need-cast-stack Inv-loop μ-loop
 cast-stack c = omega (arith, at-arrow (c .before .before) .few)
@@ -88,7 +92,9 @@ chain-begin-requires : tie.Need-chain-begin-requires Inv-loop μ-loop
 chain-begin-requires c κs = at-arrow (c .before .before) .from-small
 
 goes-on : tie.Need-loop-again-2 Inv-loop μ-loop × tie.Need-loop-less-2 Inv-loop μ-loop
-goes-on = both (λ c. rw (c .chain-begin .ensures) (state-on (c .before .before .before .before .before .loop .inv) (at-arrow (c .before .before .before)) (c .before .if3 .taken)))
+goes-on = both (λ c.
+    let arrow = c .before .before .before in
+    rw (c .chain-begin .ensures) (state-on (arrow .before .before .loop .inv) (at-arrow arrow) (c .before .if3 .taken)))
 
 returns : tie.Need-returns Inv-loop μ-loop
 returns c = state-cycle (c .before .before .before .before .loop .inv) (at-arrow (c .before .before)) (c .before .if2 .left) (c .if3 .left)
@@ -137,9 +143,10 @@ chain-next-requires-2 c κs = at-back (c .before)
 
 goes-back : tie.Need-loop-again-4 Inv-loop μ-loop × tie.Need-loop-less-4 Inv-loop μ-loop
 goes-back = both (λ c.
-    let end = c .before .before .before in
-    let from = c .before .before .usize-from-u16 in
-    rw (c .chain-next2 .ensures) (state-back (end .before .before .before .loop .inv) (end .before .before .if1 .left) (end .before .if4 .taken) (end .if5 .left) (from .ensures .0) (c .before .to-at .ensures .0)))
+    let back = c .before .before in
+    let end = back .before .before in
+    rw (c .chain-next2 .ensures) (state-back (end .before .before .loop .inv) (end .before .if1 .left) (end .if4 .taken)
+    (back .before .if5 .left) (back .usize-from-u16 .ensures .0) (c .before .to-at .ensures .0)))
 
 returns-2 : tie.Need-returns-2 Inv-loop μ-loop
 returns-2 c = state-end (c .before .before .before .loop .inv) (c .before .if4 .left) (c .if6 .taken)
@@ -163,7 +170,9 @@ chain-begin-requires-2 : tie.Need-chain-begin-requires-2 Inv-loop μ-loop
 chain-begin-requires-2 c κs = at-root (c .before)
 
 enters : tie.Need-loop-again-5 Inv-loop μ-loop × tie.Need-loop-less-5 Inv-loop μ-loop
-enters = both (λ c. rw (c .chain-begin2 .ensures) (state-enter (c .before .before .before .before .before .loop .inv) (c .before .before .before .if4 .left) (c .before .before .if6 .left) (c .before .if7 .taken)))
+enters = both (λ c.
+    let root = c .before .before in
+    rw (c .chain-begin2 .ensures) (state-enter (root .before .before .before .loop .inv) (root .before .if4 .left) (root .if6 .left) (c .before .if7 .taken)))
 
 next-root : tie.Need-loop-again-6 Inv-loop μ-loop × tie.Need-loop-less-6 Inv-loop μ-loop
 next-root = both (λ c. state-root (c .before .before .before .before .loop .inv) (c .before .before .if4 .left) (c .before .if6 .left) (c .if7 .left))

@@ -29,23 +29,23 @@ add-i c = search needs
 
 returns : tie.Need-returns Inv-loop μ-loop
 returns c =
-    let c-loop = c .before .before .before .before .loop in
-    first-here _ _ _ (c .before .before .before .loop-test .taken) (c-loop .inv .1) (λ both. omega (arith, both .0 .low, c .before .before .from-at .ensures .0))
+    let turn = c .before .before .before in
+    first-here _ _ _ (turn .loop-test .taken) (turn .before .loop .inv .1) (λ both. omega (arith, both .0 .low, c .before .before .from-at .ensures .0))
 
 returns-2 : tie.Need-returns-2 Inv-loop μ-loop
 returns-2 c =
-    let c-loop = c .before .before .before .before .before .loop in
-    first-here _ _ _ (c .before .before .before .before .loop-test .taken) (c-loop .inv .1) (λ both. omega (arith, both .0 .high, c .before .before .before .from-at .ensures .0))
+    let turn = c .before .before .before .before in
+    first-here _ _ _ (turn .loop-test .taken) (turn .before .loop .inv .1) (λ both. omega (arith, both .0 .high, c .before .before .before .from-at .ensures .0))
 
 returns-3 : tie.Need-returns-3 Inv-loop μ-loop
 returns-3 c =
-    let c-loop = c .before .before .before .before .before .before .loop in
-    first-here _ _ _ (c .before .before .before .before .before .loop-test .taken) (c-loop .inv .1) (λ both. omega (arith, both .1 .low, c .before .before .before .to-at .ensures .0))
+    let turn = c .before .before .before .before .before in
+    first-here _ _ _ (turn .loop-test .taken) (turn .before .loop .inv .1) (λ both. omega (arith, both .1 .low, c .before .before .before .to-at .ensures .0))
 
 returns-4 : tie.Need-returns-4 Inv-loop μ-loop
 returns-4 c =
-    let c-loop = c .before .before .before .before .before .before .before .loop in
-    first-here _ _ _ (c .before .before .before .before .before .before .loop-test .taken) (c-loop .inv .1) (λ both. omega (arith, both .1 .high, c .before .before .before .before .to-at .ensures .0))
+    let turn = c .before .before .before .before .before .before in
+    first-here _ _ _ (turn .loop-test .taken) (turn .before .loop .inv .1) (λ both. omega (arith, both .1 .high, c .before .before .before .before .to-at .ensures .0))
 
 loop-less : tie.Need-loop-less Inv-loop μ-loop
 loop-less c = search needs
@@ -56,7 +56,8 @@ loop-again c =
     let from = c .before .before .before .before .before .from-at .ensures .0 in
     let to = c .before .before .before .before .to-at .ensures .0 in (
       omega arith,
-      below-more _ _ (c-loop .inv .1) (λ out. out (record { low = omega (arith, from); high = omega (arith, from) }, record { low = omega (arith, to); high = omega (arith, to) })),
+      below-more _ _ (c-loop .inv .1)
+          (λ out. out (record { low = omega (arith, from); high = omega (arith, from) }, record { low = omega (arith, to); high = omega (arith, to) })),
     )
 
 returns-5 : tie.Need-returns-5 Inv-loop μ-loop

@@ -16,7 +16,7 @@ abbrev μ-loop : tie.MeasureT-loop
 
 -- at the arrow at the cursor, which comes from u
 at-arrow : (c : tie.After-source Inv-loop μ-loop)
-    → Looks (c .before .before .before .args .n) (now (c .before .before .before .args .arrows)) (c .before .before .loop .v) (c .before .before .loop .c) (c .source .result .0)
+    → let loop = c .before .before in Looks (loop .before .args .n) (now (loop .before .args .arrows)) (loop .loop .v) (loop .loop .c) (c .source .result .0)
 at-arrow c = let r = c .before .before .loop .inv in looks (r .tidy) (r .along) (c .before .if1 .left) (c .source .ensures .0)
 
 loop-holds : tie.Need-loop-holds Inv-loop μ-loop
@@ -77,7 +77,9 @@ chain-next-requires : tie.Need-chain-next-requires Inv-loop μ-loop
 chain-next-requires c κs = (at-arrow (c .before .before) .some, at-arrow (c .before .before) .few)
 
 passes : tie.Need-loop-again-2 Inv-loop μ-loop × tie.Need-loop-less-2 Inv-loop μ-loop
-passes = both (λ c. rw (c .chain-next .ensures) (met-pass (c .before .before .before .before .before .loop .inv) (at-arrow (c .before .before .before)) (c .before .before .met-in .ensures) (c .before .earlier .ensures)))
+passes = both (λ c.
+    let arrow = c .before .before .before in
+    rw (c .chain-next .ensures) (met-pass (arrow .before .before .loop .inv) (at-arrow arrow) (c .before .before .met-in .ensures) (c .before .earlier .ensures)))
 
 pub first-repeat-spec : {M : Type 1} → statement M
 first-repeat-spec =

@@ -1,5 +1,4 @@
 -- `latest`: the answer is the largest finish of the predecessors. Assumes nothing.
-use mathlib.Core.Path.{_≡_}
 use native.Mathlib.Omega.{arith}
 use borrow.Author.Needs.{needs}
 use denote.Ref.{now}
@@ -18,7 +17,7 @@ abbrev μ-loop : tie.MeasureT-loop
 
 -- at the arrow at the cursor, which comes from p
 at-arrow : (c : tie.After-source Inv-loop μ-loop)
-    → Looks (c .before .before .before .before .args .n) (now (c .before .before .before .before .args .arrows)) (c .before .before .before .before .args .v .0) (c .before .before .loop .c) (c .source .result .0)
+    → let args = c .before .before .before .before .args in Looks (args .n) (now (args .arrows)) (args .v .0) (c .before .before .loop .c) (c .source .result .0)
 at-arrow c = let r = c .before .before .loop .inv in looks (r .tidy) (r .along) (c .before .loop-test .taken) (c .source .ensures .0)
 
 chain-begin-requires : tie.Need-chain-begin-requires Inv-loop μ-loop
@@ -43,7 +42,9 @@ chain-next-requires : tie.Need-chain-next-requires Inv-loop μ-loop
 chain-next-requires c κs = (at-arrow (c .before .before) .some, at-arrow (c .before .before) .few)
 
 turns : tie.Need-loop-again Inv-loop μ-loop × tie.Need-loop-less Inv-loop μ-loop
-turns = both (λ c. rw (c .chain-next .ensures) (looked-more (c .before .before .before .before .before .loop .inv) (at-arrow (c .before .before .before)) (c .before .larger .ensures)))
+turns = both (λ c.
+    let arrow = c .before .before .before in
+    rw (c .chain-next .ensures) (looked-more (arrow .before .before .loop .inv) (at-arrow arrow) (c .before .larger .ensures)))
 
 returns : tie.Need-returns Inv-loop μ-loop
 returns c =

@@ -40,7 +40,8 @@ time-of-requires c κs = search needs
 add-f : tie.Need-add-f Inv-loop μ-loop
 add-f c =
     let entry = c .before .before .before in
-    let fits = time-fits (entry .before .before .before .loop .inv) (entry .before .before .loop-test .taken) (entry .usize-from-u16 .ensures .0) (c .before .latest .ensures) in
+    let turn = entry .before .before in
+    let fits = time-fits (turn .before .loop .inv) (turn .loop-test .taken) (entry .usize-from-u16 .ensures .0) (c .before .latest .ensures) in
     omega (arith, fits, c .time-of .ensures .small)
 
 mul-finish : tie.Need-mul-finish Inv-loop μ-loop

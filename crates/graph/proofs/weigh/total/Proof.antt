@@ -1,5 +1,5 @@
 -- `total`: the sum is the total work. Assumes nothing.
-use mathlib.Core.Path.{_≡_, refl, ap, sym, _∙_}
+use mathlib.Core.Path.{_≡_, refl}
 use Prim.Native.Nat.{suc, _-_, _*_, _≤_}
 use native.Mathlib.Omega.{arith}
 use native.Mathlib.Numerals.{add-one}
