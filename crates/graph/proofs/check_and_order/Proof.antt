@@ -20,17 +20,11 @@ size : (c : tie.After-enum-told2) → Accepted (sizeRows (now (c .before .before
 unfolding IsCheck
 size c = rw (c .enum-told2 .given .1) at (c .before .before .check-size .ensures)
 
-check-subtasks-requires : tie.Need-check-subtasks-requires
-check-subtasks-requires c κs = search needs
-
 enum-known-refusal : tie.Need-enum-known-refusal
 enum-known-refusal c = search needs
 
 enum-told : tie.Need-enum-told
 enum-told c = search needs
-
-check-size-requires : tie.Need-check-size-requires
-check-size-requires c κs = search needs
 
 enum-known-refusal-2 : tie.Need-enum-known-refusal-2
 enum-known-refusal-2 c = search needs
@@ -63,10 +57,10 @@ pub check-and-order-spec : {M : Type 1} → statement M
 check-and-order-spec =
     tie.close
     (tie.spec
-    check-subtasks-requires
+    (λ c κs. tt)
     enum-known-refusal
     enum-told
-    check-size-requires
+    (λ c κs. tt)
     enum-known-refusal-2
     enum-told-2
     check-arrows-requires

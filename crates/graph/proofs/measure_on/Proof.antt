@@ -6,17 +6,11 @@ use Rattle.theory.proofs.Answers.{refused-first, refused-later, accepted-join}
 use Rattle.graph.proofs.measure_on.Statement.{statement}
 use Rattle.graph.proofs.measure_on.Tie as tie
 
-measure-requires : tie.Need-measure-requires
-measure-requires c κs = search needs
-
 enum-known-refusal : tie.Need-enum-known-refusal
 enum-known-refusal c = search needs
 
 enum-known-weights : tie.Need-enum-known-weights
 enum-known-weights c = search needs
-
-check-processors-requires : tie.Need-check-processors-requires
-check-processors-requires c κs = search needs
 
 enum-known-refusal-2 : tie.Need-enum-known-refusal-2
 enum-known-refusal-2 c = search needs
@@ -48,10 +42,10 @@ pub measure-on-spec : {M : Type 1} → statement M
 measure-on-spec =
     tie.close
     (tie.spec
-    measure-requires
+    (λ c κs. tt)
     enum-known-refusal
     enum-known-weights
-    check-processors-requires
+    (λ c κs. tt)
     enum-known-refusal-2
     enum-told
     returns

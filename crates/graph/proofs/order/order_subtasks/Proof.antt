@@ -129,14 +129,8 @@ mul-usize-from-u16 c = omega (arith, at-end (c .before))
 array-read-usize-from-u16 : tie.Need-array-read-usize-from-u16 Inv-loop μ-loop
 array-read-usize-from-u16 c = omega (arith, at-end (c .before))
 
-usize-from-u16-requires : tie.Need-usize-from-u16-requires Inv-loop μ-loop
-usize-from-u16-requires c κs = tt
-
 sub-to-at : tie.Need-sub-to-at Inv-loop μ-loop
 sub-to-at c = at-back c .0
-
-to-at-requires : tie.Need-to-at-requires Inv-loop μ-loop
-to-at-requires c κs = tt
 
 chain-next-requires-2 : tie.Need-chain-next-requires-2 Inv-loop μ-loop
 chain-next-requires-2 c κs = at-back (c .before)
@@ -213,9 +207,9 @@ order-subtasks-spec =
     sub-depth
     mul-usize-from-u16
     array-read-usize-from-u16
-    usize-from-u16-requires
+    (λ c κs. tt)
     sub-to-at
-    to-at-requires
+    (λ c κs. tt)
     chain-next-requires-2
     (goes-back .1)
     (goes-back .0)

@@ -28,9 +28,6 @@ mul-fault-of c = search needs
 shared-slice-copy-out-fault-of : tie.Need-shared-slice-copy-out-fault-of Inv-loop μ-loop
 shared-slice-copy-out-fault-of c = search needs
 
-fault-of-requires : tie.Need-fault-of-requires Inv-loop μ-loop
-fault-of-requires c κs = search needs
-
 add-count : tie.Need-add-count Inv-loop μ-loop
 add-count c =
     let c-loop = c .before .before .before .loop in
@@ -64,7 +61,7 @@ faults-spec =
     loop-holds
     mul-fault-of
     shared-slice-copy-out-fault-of
-    fault-of-requires
+    (λ c κs. tt)
     add-count
     add-i
     loop-less

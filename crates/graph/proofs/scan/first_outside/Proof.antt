@@ -18,12 +18,6 @@ abbrev μ-loop : tie.MeasureT-loop
 loop-holds : tie.Need-loop-holds Inv-loop μ-loop
 loop-holds c = search needs
 
-from-at-requires : tie.Need-from-at-requires Inv-loop μ-loop
-from-at-requires c κs = search needs
-
-to-at-requires : tie.Need-to-at-requires Inv-loop μ-loop
-to-at-requires c κs = search needs
-
 add-i : tie.Need-add-i Inv-loop μ-loop
 add-i c = search needs
 
@@ -72,8 +66,8 @@ first-outside-spec =
     Inv-loop
     μ-loop
     loop-holds
-    from-at-requires
-    to-at-requires
+    (λ c κs. tt)
+    (λ c κs. tt)
     add-i
     returns
     returns-2

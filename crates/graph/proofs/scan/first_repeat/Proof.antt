@@ -49,12 +49,6 @@ mul-met-in-2 c = omega arith
 array-read-met-in-2 : tie.Need-array-read-met-in-2 Inv-loop μ-loop
 array-read-met-in-2 c = at-arrow c .from-small
 
-met-in-requires : tie.Need-met-in-requires Inv-loop μ-loop
-met-in-requires c κs = search needs
-
-earlier-requires : tie.Need-earlier-requires Inv-loop μ-loop
-earlier-requires c κs = search needs
-
 cast-seen : tie.Need-cast-seen Inv-loop μ-loop
 cast-seen c = let r = c .before .before .before .before .loop .inv in omega (arith, r .within, r .tidy .subtasks)
 
@@ -98,8 +92,8 @@ first-repeat-spec =
     array-read-met-in
     mul-met-in-2
     array-read-met-in-2
-    met-in-requires
-    earlier-requires
+    (λ c κs. tt)
+    (λ c κs. tt)
     cast-seen
     mul-seen
     array-write-seen

@@ -1,6 +1,5 @@
 -- `latest`: the answer is the largest finish of the predecessors. Assumes nothing.
 use native.Mathlib.Omega.{arith}
-use borrow.Author.Needs.{needs}
 use denote.Ref.{now}
 use Rattle.theory.proofs.Rounds.{both}
 use Rattle.graph.specs.Latest.{Latest}
@@ -35,9 +34,6 @@ mul-larger c = omega arith
 element-copy-out-larger : tie.Need-element-copy-out-larger Inv-loop μ-loop
 element-copy-out-larger c = at-arrow c .from-small
 
-larger-requires : tie.Need-larger-requires Inv-loop μ-loop
-larger-requires c κs = search needs
-
 chain-next-requires : tie.Need-chain-next-requires Inv-loop μ-loop
 chain-next-requires c κs = (at-arrow (c .before .before) .some, at-arrow (c .before .before) .few)
 
@@ -63,7 +59,7 @@ latest-spec =
     source-requires
     mul-larger
     element-copy-out-larger
-    larger-requires
+    (λ c κs. tt)
     chain-next-requires
     (turns .1)
     (turns .0)

@@ -2,7 +2,6 @@
 use Prim.Native.Nat.{_-_, _<_}
 use native.Mathlib.Omega.{arith}
 use lib.ListN.{length}
-use borrow.Author.Needs.{needs}
 use Rattle.graph.proofs.PathWeights.{Weighed, weighed-start, entry-small, time-fits, weighed-more, weighed-end}
 use Rattle.graph.proofs.weigh.longest.Statement.{statement}
 use Rattle.graph.proofs.weigh.longest.Tie as tie
@@ -28,14 +27,8 @@ mul-usize-from-u16 c = omega (arith, place-in c)
 element-copy-out-usize-from-u16 : tie.Need-element-copy-out-usize-from-u16 Inv-loop μ-loop
 element-copy-out-usize-from-u16 c = place-in c
 
-usize-from-u16-requires : tie.Need-usize-from-u16-requires Inv-loop μ-loop
-usize-from-u16-requires c κs = search needs
-
 latest-requires : tie.Need-latest-requires Inv-loop μ-loop
 latest-requires c κs = let pre = c .before .before .before .before .before .before .pre in ((pre .0 .0, entry-in (c .before)), pre .1 .0)
-
-time-of-requires : tie.Need-time-of-requires Inv-loop μ-loop
-time-of-requires c κs = search needs
 
 add-f : tie.Need-add-f Inv-loop μ-loop
 add-f c =
@@ -49,9 +42,6 @@ mul-finish c = omega (arith, entry-in (c .before .before .before))
 
 array-write-finish : tie.Need-array-write-finish Inv-loop μ-loop
 array-write-finish c = entry-in (c .before .before .before)
-
-larger-requires : tie.Need-larger-requires Inv-loop μ-loop
-larger-requires c κs = search needs
 
 add-j : tie.Need-add-j Inv-loop μ-loop
 add-j c = omega (arith, place-in (c .before .before .before .before .before .before))
@@ -77,13 +67,13 @@ longest-spec =
     loop-holds
     mul-usize-from-u16
     element-copy-out-usize-from-u16
-    usize-from-u16-requires
+    (λ c κs. tt)
     latest-requires
-    time-of-requires
+    (λ c κs. tt)
     add-f
     mul-finish
     array-write-finish
-    larger-requires
+    (λ c κs. tt)
     add-j
     loop-less
     loop-again

@@ -25,9 +25,6 @@ loop-holds c = (omega arith, c .before .pre, omega arith, refl)
 add-i : tie.Need-add-i Inv-loop μ-loop
 add-i c = search needs
 
-time-of-requires : tie.Need-time-of-requires Inv-loop μ-loop
-time-of-requires c κs = search needs
-
 add-sum : tie.Need-add-sum Inv-loop μ-loop
 add-sum c = omega (arith, c .time-of .ensures .small)
 
@@ -56,7 +53,7 @@ total-spec =
     μ-loop
     loop-holds
     add-i
-    time-of-requires
+    (λ c κs. tt)
     add-sum
     loop-less
     loop-again
