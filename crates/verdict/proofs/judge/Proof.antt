@@ -16,7 +16,8 @@ use Rattle.verdict.proofs.judge.Tie as tie
 -- none of 1 to 8 holds, and C and P are measured
 measured : (c : tie.After-known-told2)
     → let args = c .before .before .before .before .before .args in
-    IsMeasure (onRows (now (args .times)) (now (args .arrows)) (args .m)) (now (args .times)) (now (args .arrows)) (measure.Is (c .before .weights .given .0 .0))
+    IsMeasure (onRows (now (args .times)) (now (args .arrows)) (args .m)) (now (args .times)) (now (args .arrows))
+    (measure.Is (c .before .weights .given .0 .0))
 measured c = rw (c .before .weights .given .1) at (c .before .before .before .measure-on .ensures)
 
 -- nor 9
@@ -38,7 +39,9 @@ enum-told c = search needs
 
 verdict-of-requires : tie.Need-verdict-of-requires
 unfolding timeOf
-verdict-of-requires c κs = askable _ _ _ _ _ (measured (c .before .before .before)) (timely c) (λ j s. omega (arith, c .before .before .before .before .before .before .before .shared-slice-known .given (j - 1)))
+verdict-of-requires c κs =
+    let is = c .before .before .before in
+    askable _ _ _ _ _ (measured is) (timely c) (λ j s. omega (arith, is .before .before .before .before .shared-slice-known .given (j - 1)))
 
 returns : tie.Need-returns
 unfolding IsMeasure verdictRows
@@ -49,7 +52,8 @@ returns-2 : tie.Need-returns-2
 unfolding IsCheck IsMeasure verdictRows
 returns-2 c =
     let nine = rw (c .before .before .refusal2 .given .1) at (c .before .before .before .before .check-deadline .ensures) in
-    refused-answer _ _ _ _ (c .refused2 .ensures) (refused-later (onRows _ _ _) (deadlineRows _) _ (measured (c .before .before .before .before .before) .0) nine)
+    refused-answer _ _ _ _ (c .refused2 .ensures) (refused-later (onRows _ _ _) (deadlineRows _) _
+    (measured (c .before .before .before .before .before) .0) nine)
 
 returns-3 : tie.Need-returns-3
 returns-3 c = judged _ _ _ _ _ (measured (c .before .before .before .before)) (timely (c .before)) (c .verdict-of .ensures)

@@ -29,7 +29,8 @@ returns c =
 returns-2 : tie.Need-returns-2 Inv-loop μ-loop
 returns-2 c =
     let turn = c .before .before .before .before in
-    first-here _ _ _ (turn .loop-test .taken) (turn .before .loop .inv .1) (λ both. omega (arith, both .0 .high, c .before .before .before .from-at .ensures .0))
+    first-here _ _ _ (turn .loop-test .taken) (turn .before .loop .inv .1)
+    (λ both. omega (arith, both .0 .high, c .before .before .before .from-at .ensures .0))
 
 returns-3 : tie.Need-returns-3 Inv-loop μ-loop
 returns-3 c =
@@ -39,7 +40,8 @@ returns-3 c =
 returns-4 : tie.Need-returns-4 Inv-loop μ-loop
 returns-4 c =
     let turn = c .before .before .before .before .before .before in
-    first-here _ _ _ (turn .loop-test .taken) (turn .before .loop .inv .1) (λ both. omega (arith, both .1 .high, c .before .before .before .before .to-at .ensures .0))
+    first-here _ _ _ (turn .loop-test .taken) (turn .before .loop .inv .1)
+    (λ both. omega (arith, both .1 .high, c .before .before .before .before .to-at .ensures .0))
 
 loop-less : tie.Need-loop-less Inv-loop μ-loop
 loop-less c = search needs

@@ -73,7 +73,8 @@ chain-next-requires c κs = (at-arrow (c .before .before) .some, at-arrow (c .be
 passes : tie.Need-loop-again-2 Inv-loop μ-loop × tie.Need-loop-less-2 Inv-loop μ-loop
 passes = both (λ c.
     let arrow = c .before .before .before in
-    rw (c .chain-next .ensures) (met-pass (arrow .before .before .loop .inv) (at-arrow arrow) (c .before .before .met-in .ensures) (c .before .earlier .ensures)))
+    rw (c .chain-next .ensures) (met-pass (arrow .before .before .loop .inv) (at-arrow arrow)
+    (c .before .before .met-in .ensures) (c .before .earlier .ensures)))
 
 pub first-repeat-spec : {M : Type 1} → statement M
 first-repeat-spec =

@@ -16,7 +16,8 @@ abbrev μ-loop : tie.MeasureT-loop
 
 -- at the arrow at the cursor, which comes from p
 at-arrow : (c : tie.After-source Inv-loop μ-loop)
-    → let args = c .before .before .before .before .args in Looks (args .n) (now (args .arrows)) (args .v .0) (c .before .before .loop .c) (c .source .result .0)
+    → let args = c .before .before .before .before .args in
+    Looks (args .n) (now (args .arrows)) (args .v .0) (c .before .before .loop .c) (c .source .result .0)
 at-arrow c = let r = c .before .before .loop .inv in looks (r .tidy) (r .along) (c .before .loop-test .taken) (c .source .ensures .0)
 
 chain-begin-requires : tie.Need-chain-begin-requires Inv-loop μ-loop
