@@ -42,7 +42,8 @@ module _ (times : List ℕ) (arrows : List (List ℕ)) where
     refused-4 h e = stop-with (begin (arrowRows times arrows)) (some-arrow scan h) e
 
     -- an arrow with wrong ends that names no subtask outside goes from a subtask to itself
-    pub refused-5 : {f : ℕ} {r : Refusal} → Faults (length times) arrows (length arrows) f → f ≢ 0 → a ≡ 0 → r ≡ refusalOf 5 → RefusedBy (arrowRows times arrows) r
+    pub refused-5 : {f : ℕ} {r : Refusal} → Faults (length times) arrows (length arrows) f → f ≢ 0 → a ≡ 0 → r ≡ refusalOf 5
+        → RefusedBy (arrowRows times arrows) r
     unfolding arrowRows
     refused-5 faults h z e = stop-with (past (begin (arrowRows times arrows)) none) (record { place = wrong .0; inside = wrong .1; isSo = itself }) e
       where
@@ -53,7 +54,8 @@ module _ (times : List ℕ) (arrows : List (List ℕ)) where
         wrong = faults .some h
 
         named : IsSubtask times (fromOf arrows (wrong .0)) × IsSubtask times (toOf arrows (wrong .0))
-        named = undenied (Dec·and (decAmong 1 (length times) _) (decAmong 1 (length times) _)) (λ out. none (record { place = wrong .0; inside = wrong .1; isSo = out }))
+        named = undenied (Dec·and (decAmong 1 (length times) _) (decAmong 1 (length times) _))
+            (λ out. none (record { place = wrong .0; inside = wrong .1; isSo = out }))
 
         itself : fromOf arrows (wrong .0) ≡ toOf arrows (wrong .0)
         itself = undenied (ℕ-discrete _ _) (λ apart. wrong .2 (record { from-in = named .0; to-in = named .1; apart = apart }))

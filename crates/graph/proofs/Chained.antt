@@ -1,13 +1,13 @@
--- The chains of arrows: how they grow by an arrow, and which places a walk along one has passed. Assumes nothing.
+-- The chains of arrows: how they grow by an arrow, and how a walk goes along one. Assumes nothing.
 use mathlib.Core.Path.{_≡_, refl, sym, ap, _∙_}
-use mathlib.Core.Logic.{by-cases}
+use mathlib.Core.Logic.{_≢_, by-cases}
 use mathlib.Core.List.{List}
 use Prim.Native.Nat.{ℕ, _+_, _-_, _≤_, _<_}
 use native.Mathlib.Omega.{arith}
 use native.Mathlib.Decide.{ℕ-discrete, decLe}
 use lib.ListN.{length, getD, set, replicate, length-set, length-replicate, getD-replicate}
 use borrow.Author.Count.{below-more}
-use Rattle.terms.specs.Graphs.{fromOf, toOf}
+use Rattle.terms.specs.Graphs.{Among, fromOf, toOf}
 use Rattle.graph.specs.Chains.{Tidy, Last, Chains}
 use Rattle.theory.proofs.Stores.{read-set}
 
@@ -60,11 +60,58 @@ chains-more end first next i v e b bi ch =
 pub to-small : {n : ℕ} {arrows : List (List ℕ)} (tidy : Tidy n arrows) (k v : ℕ) → k < length arrows → v ≡ toOf arrows k → v < 257
 to-small tidy k v l e = omega (arith, tidy .to-in k l .high, tidy .subtasks)
 
-pub from-small : {n : ℕ} {arrows : List (List ℕ)} (tidy : Tidy n arrows) (k u : ℕ) → k < length arrows → u ≡ fromOf arrows k → u < 257
-from-small tidy k u l e = omega (arith, tidy .from-in k l .high, tidy .subtasks)
+-- ---- along the chain of the arrows into v
 
--- along the chain of v: a place whose arrow has v at this end, and which is not before the next position x, is one that was passed, or the
--- present one
-pub passed-now : {A : Type 0} {end : ℕ → ℕ} {v x : ℕ} (c k : ℕ) → end (c - 1) ≡ v → Last end (end (c - 1)) (c - 1) x → x ≤ k → end k ≡ v → (c ≤ k → A) → (k ≡ c - 1 → A) → A
-passed-now c k to-v last a e passed present = by-cases (decLe c k) passed
-    (λ b. by-cases (ℕ-discrete k (c - 1)) present (λ d. absurd (last .gap k a (omega (arith, b, d)) (e ∙ sym to-v))))
+-- c is a position of it, and 0 is its end
+pub record Along (arrows : List (List ℕ)) (v c : ℕ) : Type 0 where
+  pub within : c ≤ length arrows
+  pub here : 0 < c → toOf arrows (c - 1) ≡ v
+
+-- the arrow at position c comes from u and goes to v
+pub record Looks (n : ℕ) (arrows : List (List ℕ)) (v c u : ℕ) : Type 0 where
+  pub some : 1 ≤ c
+  pub few : c ≤ 2048
+  pub inside : c - 1 < length arrows
+  pub begins : u ≡ fromOf arrows (c - 1)
+  pub arrives : toOf arrows (c - 1) ≡ v
+  pub from-is : Among 1 n u
+  pub to-is : Among 1 n v
+  pub from-small : u < 257
+
+module _ {n : ℕ} {arrows : List (List ℕ)} {v c u : ℕ} where
+  pub looks : Tidy n arrows → Along arrows v c → c ≢ 0 → u ≡ fromOf arrows (c - 1) → Looks n arrows v c u
+  looks tidy at h e =
+      let l : c - 1 < length arrows = omega (arith, at .within, h) in
+      let to = at .here (omega (arith, h)) in
+      let from-is : Among 1 n u = rw e (tidy .from-in (c - 1) l) in
+      record {
+        some = omega (arith, h);
+        few = omega (arith, at .within, tidy .few);
+        inside = l;
+        begins = e;
+        arrives = to;
+        from-is = from-is;
+        to-is = rw to at (tidy .to-in (c - 1) l);
+        from-small = omega (arith, from-is .high, tidy .subtasks);
+      }
+
+  module _ {first next : List ℕ} (chains : Chains (toOf arrows) first next (length arrows)) (at : Looks n arrows v c u) where
+    last : Last (toOf arrows) (toOf arrows (c - 1)) (c - 1) (getD next (c - 1) 0)
+    last = chains .step (c - 1) (at .inside)
+
+    pub along-next : Along arrows v (getD next (c - 1) 0)
+    along-next = record { within = omega (arith, last .within, at .inside); here = λ l. last .here l ∙ at .arrives }
+
+    pub next-less : getD next (c - 1) 0 < c
+    next-less = omega (arith, last .within, at .some)
+
+    -- an arrow into v that is not before the next position was passed, or is the present one
+    pub passed-now : {A : Type 0} (k : ℕ) → getD next (c - 1) 0 ≤ k → toOf arrows k ≡ v → (c ≤ k → A) → (k ≡ c - 1 → fromOf arrows k ≡ u → A) → A
+    passed-now k a e passed present = by-cases (decLe c k) passed
+        (λ b. by-cases (ℕ-discrete k (c - 1))
+        (λ d. present d (ap (λ (y : ℕ). fromOf arrows y) d ∙ sym (at .begins)))
+        (λ d. absurd (last .gap k a (omega (arith, b, d)) (e ∙ sym (at .arrives)))))
+
+-- where it begins
+pub along-begin : {arrows : List (List ℕ)} {v x : ℕ} → Last (toOf arrows) v (length arrows) x → Along arrows v x
+along-begin last = record { within = last .within; here = last .here }

@@ -1,15 +1,17 @@
 -- the chains of arrows
 pub mod Chained
 -- scans
-pub mod Ends
-pub mod Faulty
-pub mod Repeated
+pub mod WrongEnds
+pub mod RepeatedArrows
 -- the order
 pub mod Marks
-pub mod Walked
+pub mod Walk
+pub mod WalkPasses
+pub mod WalkEnters
+pub mod WalkPlaces
 pub mod NoCycle
 -- C and P
-pub mod Weighed
+pub mod PathWeights
 -- the answers
 pub mod ArrowAnswers
 pub mod Replies

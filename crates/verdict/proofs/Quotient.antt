@@ -35,7 +35,8 @@ cross x dx y dy c m p q =
     ∙ mul-assoc c dx (dy * m)
     ∙ ap (λ (z : ℕ). c * z) (mul-comm dx (dy * m) ∙ ap (λ (z : ℕ). z * dx) (mul-comm dy m ∙ sym q))
 
-pub rounded-once : (c m : ℕ) → 0 < c → c < 2 ^ 24 → 0 < m → m < 2 ^ 24 → div binary32 (ofInt binary32 (pos c)) (ofInt binary32 (pos m)) ≡ round binary32 false c m
+pub rounded-once : (c m : ℕ) → 0 < c → c < 2 ^ 24 → 0 < m → m < 2 ^ 24
+    → div binary32 (ofInt binary32 (pos c)) (ofInt binary32 (pos m)) ≡ round binary32 false c m
 rounded-once c m hc kc hm km =
     let x = ofInt binary32 (pos c) in
     let y = ofInt binary32 (pos m) in

@@ -1,21 +1,22 @@
 // S, the load, fits or late.
-use graph::measure;
+use graph::measure_on;
+use limits::check_deadline;
 use terms::Answer;
+use terms::Check;
 use terms::Figures;
-use terms::LONGEST_DEADLINE;
-use terms::MOST_PROCESSORS;
 use terms::Measure;
 use terms::Outcome;
 use terms::Refusal;
 use terms::Verdict;
+use terms::Weights;
 ghost use mathlib.Core.Path.{_≡_};
-ghost use Prim.Native.Nat.{_<_};
 ghost use mathlib.Core.Bool.{false};
 ghost use lib.Ieee.{binary32, round};
+ghost use Rattle.terms.specs.Graphs.{Among};
 ghost use Rattle.terms.specs.Verdicts.{noFigures};
 ghost use Rattle.terms.specs.Replies.{IsAnswer};
 ghost use Rattle.terms.specs.declared.Outcome.the-variants as outcome;
-ghost use Rattle.terms.specs.Graphs.{Among};
+ghost use Rattle.verdict.specs.Judges.{Askable, Judges};
 
 // The load: neither cast changes its number, so the quotient is rounded once.
 fn load(work: u32, room: u32) -> f32
@@ -41,40 +42,20 @@ fn refused(refusal: Refusal) -> Answer
     }
 }
 
-// The one place where a refusal is made here.
-fn refused_by(number: u8) -> Answer
-    ensures { λ r. ⌜ (r .figures ≡ noFigures) × (r .outcome ≡ outcome.Refused (record { number = number })) ⌝ }
+// The verdict of C and P, on m processors with deadline d.
+fn verdict_of(weights: Weights, m: u32, d: u32) -> Answer
+    requires { ⌜ Askable (weights .c) (weights .p) m d ⌝ }
+    ensures { λ r. ⌜ Judges (weights .c) (weights .p) m d r ⌝ }
 {
-    refused(Refusal { number })
-}
-
-// The answer to a deadline question, on m processors with deadline d.
-pub fn judge(times: &[u16], arrows: &[[u16; 2]], m: u32, d: u32) -> Answer
-    ensures { λ r. ⌜ IsAnswer (now (times .entry)) (now (arrows .entry)) m d r ⌝ }
-{
-    let weights = match measure(times, arrows) {
-        Measure::Is(weights) => weights,
-        Measure::Refused(refusal) => return refused(refusal),
-    };
-    if m < 1 {
-        return refused_by(8);
-    }
-    if MOST_PROCESSORS < m {
-        return refused_by(8);
-    }
-    if d < 1 {
-        return refused_by(9);
-    }
-    if LONGEST_DEADLINE < d {
-        return refused_by(9);
-    }
-    let s = weights.work + (m - 1) * weights.path;
+    let c = weights.c;
+    let p = weights.p;
+    let s = c + (m - 1) * p;
     let room = m * d;
     let figures = Figures {
-        c: weights.work,
-        p: weights.path,
+        c,
+        p,
         s,
-        load: load(weights.work, room),
+        load: load(c, room),
     };
     if s <= room {
         Answer {
@@ -86,5 +67,18 @@ pub fn judge(times: &[u16], arrows: &[[u16; 2]], m: u32, d: u32) -> Answer
             figures,
             outcome: Outcome::Judged(Verdict::Late(s - room)),
         }
+    }
+}
+
+// The answer to a deadline question, on m processors with deadline d.
+pub fn judge(times: &[u16], arrows: &[[u16; 2]], m: u32, d: u32) -> Answer
+    ensures { λ r. ⌜ IsAnswer (now (times .entry)) (now (arrows .entry)) m d r ⌝ }
+{
+    match measure_on(times, arrows, m) {
+        Measure::Refused(refusal) => refused(refusal),
+        Measure::Is(weights) => match check_deadline(d) {
+            Check::Refused(refusal) => refused(refusal),
+            Check::Sound => verdict_of(weights, m, d),
+        },
     }
 }

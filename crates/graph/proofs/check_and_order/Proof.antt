@@ -20,17 +20,11 @@ size : (c : tie.After-enum-told2) → Accepted (sizeRows (now (c .before .before
 unfolding IsCheck
 size c = rw (c .enum-told2 .given .1) at (c .before .before .check-size .ensures)
 
-check-subtasks-requires : tie.Need-check-subtasks-requires
-check-subtasks-requires c κs = search needs
-
 enum-known-refusal : tie.Need-enum-known-refusal
 enum-known-refusal c = search needs
 
 enum-told : tie.Need-enum-told
 enum-told c = search needs
-
-check-size-requires : tie.Need-check-size-requires
-check-size-requires c κs = search needs
 
 enum-known-refusal-2 : tie.Need-enum-known-refusal-2
 enum-known-refusal-2 c = search needs
@@ -39,7 +33,9 @@ enum-told-2 : tie.Need-enum-told-2
 enum-told-2 c = search needs
 
 check-arrows-requires : tie.Need-check-arrows-requires
-check-arrows-requires c κs = ((subtasks (c .before .before .before .before .before .before), size (c .before .before .before)), c .before .before .before .before .before .before .before .before .before .before .pre)
+check-arrows-requires c κs =
+    let three = c .before .before .before in
+    ((subtasks (three .before .before .before), size three), three .before .before .before .before .before .before .before .pre)
 
 returns : tie.Need-returns
 unfolding graphRows IsCheck
@@ -53,16 +49,18 @@ returns-2 c =
 
 returns-3 : tie.Need-returns-3
 unfolding graphRows
-returns-3 c = finds-later (subtaskRows _) (subtasks (c .before .before .before .before .before .before .before)) (finds-later (sizeRows _) (size (c .before .before .before .before)) (c .check-arrows .ensures))
+returns-3 c =
+    let three = c .before .before .before .before in
+    finds-later (subtaskRows _) (subtasks (three .before .before .before)) (finds-later (sizeRows _) (size three) (c .check-arrows .ensures))
 
 pub check-and-order-spec : {M : Type 1} → statement M
 check-and-order-spec =
     tie.close
     (tie.spec
-    check-subtasks-requires
+    (λ c κs. tt)
     enum-known-refusal
     enum-told
-    check-size-requires
+    (λ c κs. tt)
     enum-known-refusal-2
     enum-told-2
     check-arrows-requires

@@ -7,17 +7,11 @@ use Rattle.graph.proofs.Replies.{check-later}
 use Rattle.graph.proofs.check_on.Statement.{statement}
 use Rattle.graph.proofs.check_on.Tie as tie
 
-check-requires : tie.Need-check-requires
-check-requires c κs = search needs
-
 enum-known-refusal : tie.Need-enum-known-refusal
 enum-known-refusal c = search needs
 
 enum-told : tie.Need-enum-told
 enum-told c = search needs
-
-check-processors-requires : tie.Need-check-processors-requires
-check-processors-requires c κs = search needs
 
 returns : tie.Need-returns
 unfolding onRows IsCheck
@@ -25,9 +19,11 @@ returns c = refused-first (graphRows _ _) _ _ (rw (c .before .refusal .given .1)
 
 returns-2 : tie.Need-returns-2
 unfolding onRows IsCheck
-returns-2 c = check-later (graphRows _ _) (processorRows _) (c .check-processors .result) (rw (c .before .enum-told .given .1) at (c .before .before .before .check .ensures)) (c .check-processors .ensures)
+returns-2 c =
+    let accepts = rw (c .before .enum-told .given .1) at (c .before .before .before .check .ensures) in
+    check-later (graphRows _ _) (processorRows _) (c .check-processors .result) accepts (c .check-processors .ensures)
 
 pub check-on-spec : {M : Type 1} → statement M
 check-on-spec =
     tie.close
-    (tie.spec check-requires enum-known-refusal enum-told check-processors-requires returns returns-2)
+    (tie.spec (λ c κs. tt) enum-known-refusal enum-told (λ c κs. tt) returns returns-2)

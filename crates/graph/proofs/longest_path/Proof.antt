@@ -4,9 +4,6 @@ use Rattle.terms.specs.Replies.{IsMeasure, IsLongestPath}
 use Rattle.graph.proofs.longest_path.Statement.{statement}
 use Rattle.graph.proofs.longest_path.Tie as tie
 
-measure-requires : tie.Need-measure-requires
-measure-requires c κs = search needs
-
 enum-known-refusal : tie.Need-enum-known-refusal
 enum-known-refusal c = search needs
 
@@ -22,4 +19,4 @@ unfolding IsMeasure IsLongestPath
 returns-2 c = let measured = rw (c .before .weights .given .1) at (c .before .before .before .measure .ensures) in (measured .0, measured .2)
 
 pub longest-path-spec : {M : Type 1} → statement M
-longest-path-spec = tie.close (tie.spec measure-requires enum-known-refusal enum-known-weights returns returns-2)
+longest-path-spec = tie.close (tie.spec (λ c κs. tt) enum-known-refusal enum-known-weights returns returns-2)

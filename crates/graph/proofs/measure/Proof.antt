@@ -1,9 +1,8 @@
 -- `measure`: the reply has C and P, or the refusal of the rows 1 to 7. Assumes nothing.
 use mathlib.Core.Path.{refl}
 use Prim.Native.Nat.{ℕ}
-use lib.ListN.{length, length-replicate}
+use lib.ListN.{length-replicate}
 use borrow.Author.Needs.{needs}
-use denote.Ref.{now}
 use Rattle.terms.specs.Replies.{IsMeasure}
 use Rattle.graph.proofs.Replies.{finds-sound, finds-refused, sized}
 use Rattle.graph.proofs.measure.Statement.{statement}

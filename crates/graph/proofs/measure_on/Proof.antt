@@ -6,17 +6,11 @@ use Rattle.theory.proofs.Answers.{refused-first, refused-later, accepted-join}
 use Rattle.graph.proofs.measure_on.Statement.{statement}
 use Rattle.graph.proofs.measure_on.Tie as tie
 
-measure-requires : tie.Need-measure-requires
-measure-requires c κs = search needs
-
 enum-known-refusal : tie.Need-enum-known-refusal
 enum-known-refusal c = search needs
 
 enum-known-weights : tie.Need-enum-known-weights
 enum-known-weights c = search needs
-
-check-processors-requires : tie.Need-check-processors-requires
-check-processors-requires c κs = search needs
 
 enum-known-refusal-2 : tie.Need-enum-known-refusal-2
 enum-known-refusal-2 c = search needs
@@ -31,23 +25,27 @@ returns c = refused-first (graphRows _ _) _ _ (rw (c .before .refusal .given .1)
 returns-2 : tie.Need-returns-2
 unfolding onRows IsCheck IsMeasure
 returns-2 c =
-    let measured = rw (c .before .before .before .before .before .weights .given .1) at (c .before .before .before .before .before .before .before .measure .ensures) in
-    refused-later (graphRows _ _) (processorRows _) _ (measured .0) (rw (c .before .refusal2 .given .1) at (c .before .before .before .check-processors .ensures))
+    let is = c .before .before .before .before .before in
+    let measured = rw (is .weights .given .1) at (is .before .before .measure .ensures) in
+    let eight = rw (c .before .refusal2 .given .1) at (c .before .before .before .check-processors .ensures) in
+    refused-later (graphRows _ _) (processorRows _) _ (measured .0) eight
 
 returns-3 : tie.Need-returns-3
 unfolding onRows IsCheck IsMeasure
 returns-3 c =
-    let measured = rw (c .before .before .before .before .weights .given .1) at (c .before .before .before .before .before .before .measure .ensures) in
-    (accepted-join (graphRows _ _) (processorRows _) (measured .0) (rw (c .enum-told .given .1) at (c .before .before .check-processors .ensures)), measured .1, measured .2)
+    let is = c .before .before .before .before in
+    let measured = rw (is .weights .given .1) at (is .before .before .measure .ensures) in
+    let eight = rw (c .enum-told .given .1) at (c .before .before .check-processors .ensures) in
+    (accepted-join (graphRows _ _) (processorRows _) (measured .0) eight, measured .1, measured .2)
 
 pub measure-on-spec : {M : Type 1} → statement M
 measure-on-spec =
     tie.close
     (tie.spec
-    measure-requires
+    (λ c κs. tt)
     enum-known-refusal
     enum-known-weights
-    check-processors-requires
+    (λ c κs. tt)
     enum-known-refusal-2
     enum-told
     returns

@@ -5,9 +5,6 @@ use Rattle.graph.proofs.Replies.{sized}
 use Rattle.graph.proofs.total_work.Statement.{statement}
 use Rattle.graph.proofs.total_work.Tie as tie
 
-check-requires : tie.Need-check-requires
-check-requires c κs = search needs
-
 enum-known-refusal : tie.Need-enum-known-refusal
 enum-known-refusal c = search needs
 
@@ -27,4 +24,4 @@ unfolding IsCheck IsTotalWork
 returns-2 c = (rw (c .before .enum-told .given .1) at (c .before .before .before .check .ensures), c .total .ensures)
 
 pub total-work-spec : {M : Type 1} → statement M
-total-work-spec = tie.close (tie.spec check-requires enum-known-refusal enum-told total-requires returns returns-2)
+total-work-spec = tie.close (tie.spec (λ c κs. tt) enum-known-refusal enum-told total-requires returns returns-2)

@@ -27,9 +27,6 @@ loop-holds c =
     let c-pre = c .pre in
     (omega arith, chains-none _ _ _ (c-pre .1 .0) (c-pre .1 .1))
 
-to-at-requires : tie.Need-to-at-requires Inv-loop μ-loop
-to-at-requires c κs = search needs
-
 mul-next : tie.Need-mul-next Inv-loop μ-loop
 mul-next c = omega arith
 
@@ -90,7 +87,7 @@ chain-spec =
     Inv-loop
     μ-loop
     loop-holds
-    to-at-requires
+    (λ c κs. tt)
     mul-next
     element-copy-out-next
     cast-next

@@ -16,12 +16,9 @@ shared-slice-copy-out-ends c = search needs
 array-read-usize-from-u16 : tie.Need-array-read-usize-from-u16
 array-read-usize-from-u16 c = search needs
 
-usize-from-u16-requires : tie.Need-usize-from-u16-requires
-usize-from-u16-requires c κs = search needs
-
 returns : tie.Need-returns
 unfolding fromOf
 returns c = c .usize-from-u16 .ensures
 
 pub source-spec : {M : Type 1} → statement M
-source-spec = tie.close (tie.spec sub-ends mul-ends shared-slice-copy-out-ends array-read-usize-from-u16 usize-from-u16-requires returns)
+source-spec = tie.close (tie.spec sub-ends mul-ends shared-slice-copy-out-ends array-read-usize-from-u16 (λ c κs. tt) returns)

@@ -6,7 +6,7 @@ use lib.ListN.{length}
 use borrow.Author.Needs.{needs}
 use denote.Ref.{now}
 use Rattle.graph.specs.Scans.{Faults}
-use Rattle.graph.proofs.Faulty.{fault-small, faults-none, faults-more}
+use Rattle.graph.proofs.WrongEnds.{fault-small, faults-none, faults-more}
 use Rattle.graph.proofs.scan.faults.Statement.{statement}
 use Rattle.graph.proofs.scan.faults.Tie as tie
 
@@ -27,9 +27,6 @@ mul-fault-of c = search needs
 
 shared-slice-copy-out-fault-of : tie.Need-shared-slice-copy-out-fault-of Inv-loop μ-loop
 shared-slice-copy-out-fault-of c = search needs
-
-fault-of-requires : tie.Need-fault-of-requires Inv-loop μ-loop
-fault-of-requires c κs = search needs
 
 add-count : tie.Need-add-count Inv-loop μ-loop
 add-count c =
@@ -64,7 +61,7 @@ faults-spec =
     loop-holds
     mul-fault-of
     shared-slice-copy-out-fault-of
-    fault-of-requires
+    (λ c κs. tt)
     add-count
     add-i
     loop-less

@@ -6,7 +6,6 @@ use borrow.Author.Needs.{needs}
 use borrow.Author.Count.{below-more}
 use Rattle.graph.specs.Scans.{Outside}
 use Rattle.theory.proofs.Firsts.{Clear, first-here, first-none}
-use Rattle.graph.proofs.Ends.{within, from-out, to-out}
 use Rattle.graph.proofs.scan.first_outside.Statement.{statement}
 use Rattle.graph.proofs.scan.first_outside.Tie as tie
 
@@ -19,42 +18,30 @@ abbrev μ-loop : tie.MeasureT-loop
 loop-holds : tie.Need-loop-holds Inv-loop μ-loop
 loop-holds c = search needs
 
-from-at-requires : tie.Need-from-at-requires Inv-loop μ-loop
-from-at-requires c κs = search needs
-
-to-at-requires : tie.Need-to-at-requires Inv-loop μ-loop
-to-at-requires c κs = search needs
-
 add-i : tie.Need-add-i Inv-loop μ-loop
 add-i c = search needs
 
 returns : tie.Need-returns Inv-loop μ-loop
 returns c =
-    let c-loop-test = c .before .before .before .loop-test in
-    let c-loop = c .before .before .before .before .loop in
-    let c-from-at = c .before .before .from-at in
-    first-here _ _ _ (c-loop-test .taken) (c-loop .inv .1) (from-out _ _ _ _ (c-from-at .ensures .0) (λ h. omega arith))
+    let turn = c .before .before .before in
+    first-here _ _ _ (turn .loop-test .taken) (turn .before .loop .inv .1) (λ both. omega (arith, both .0 .low, c .before .before .from-at .ensures .0))
 
 returns-2 : tie.Need-returns-2 Inv-loop μ-loop
 returns-2 c =
-    let c-loop-test = c .before .before .before .before .loop-test in
-    let c-loop = c .before .before .before .before .before .loop in
-    let c-from-at = c .before .before .before .from-at in
-    first-here _ _ _ (c-loop-test .taken) (c-loop .inv .1) (from-out _ _ _ _ (c-from-at .ensures .0) (λ h. omega arith))
+    let turn = c .before .before .before .before in
+    first-here _ _ _ (turn .loop-test .taken) (turn .before .loop .inv .1)
+    (λ both. omega (arith, both .0 .high, c .before .before .before .from-at .ensures .0))
 
 returns-3 : tie.Need-returns-3 Inv-loop μ-loop
 returns-3 c =
-    let c-loop-test = c .before .before .before .before .before .loop-test in
-    let c-loop = c .before .before .before .before .before .before .loop in
-    let c-to-at = c .before .before .before .to-at in
-    first-here _ _ _ (c-loop-test .taken) (c-loop .inv .1) (to-out _ _ _ _ (c-to-at .ensures .0) (λ h. omega arith))
+    let turn = c .before .before .before .before .before in
+    first-here _ _ _ (turn .loop-test .taken) (turn .before .loop .inv .1) (λ both. omega (arith, both .1 .low, c .before .before .before .to-at .ensures .0))
 
 returns-4 : tie.Need-returns-4 Inv-loop μ-loop
 returns-4 c =
-    let c-loop-test = c .before .before .before .before .before .before .loop-test in
-    let c-loop = c .before .before .before .before .before .before .before .loop in
-    let c-to-at = c .before .before .before .before .to-at in
-    first-here _ _ _ (c-loop-test .taken) (c-loop .inv .1) (to-out _ _ _ _ (c-to-at .ensures .0) (λ h. omega arith))
+    let turn = c .before .before .before .before .before .before in
+    first-here _ _ _ (turn .loop-test .taken) (turn .before .loop .inv .1)
+    (λ both. omega (arith, both .1 .high, c .before .before .before .before .to-at .ensures .0))
 
 loop-less : tie.Need-loop-less Inv-loop μ-loop
 loop-less c = search needs
@@ -62,9 +49,12 @@ loop-less c = search needs
 loop-again : tie.Need-loop-again Inv-loop μ-loop
 loop-again c =
     let c-loop = c .before .before .before .before .before .before .before .loop in
-    let c-from-at = c .before .before .before .before .before .from-at in
-    let c-to-at = c .before .before .before .before .to-at in
-    (omega arith, below-more _ _ (c-loop .inv .1) (within _ _ _ _ _ (c-from-at .ensures .0) (c-to-at .ensures .0) (omega arith) (omega arith) (omega arith) (omega arith)))
+    let from = c .before .before .before .before .before .from-at .ensures .0 in
+    let to = c .before .before .before .before .to-at .ensures .0 in (
+      omega arith,
+      below-more _ _ (c-loop .inv .1)
+          (λ out. out (record { low = omega (arith, from); high = omega (arith, from) }, record { low = omega (arith, to); high = omega (arith, to) })),
+    )
 
 returns-5 : tie.Need-returns-5 Inv-loop μ-loop
 returns-5 c =
@@ -78,8 +68,8 @@ first-outside-spec =
     Inv-loop
     μ-loop
     loop-holds
-    from-at-requires
-    to-at-requires
+    (λ c κs. tt)
+    (λ c κs. tt)
     add-i
     returns
     returns-2

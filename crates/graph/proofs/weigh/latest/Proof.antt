@@ -1,64 +1,53 @@
 -- `latest`: the answer is the largest finish of the predecessors. Assumes nothing.
-use mathlib.Core.Path.{refl}
-use Prim.Native.Nat.{_-_}
 use native.Mathlib.Omega.{arith}
-use borrow.Author.Needs.{needs}
 use denote.Ref.{now}
-use Rattle.graph.proofs.Chained.{from-small}
 use Rattle.theory.proofs.Rounds.{both}
-use Rattle.graph.proofs.Weighed.{LookedAt, looked-start, look-at, looked-more}
+use Rattle.graph.specs.Latest.{Latest}
+use Rattle.graph.proofs.Chained.{Looks, looks}
+use Rattle.graph.proofs.PathWeights.{LookedAt, looked-start, looked-more}
 use Rattle.graph.proofs.weigh.latest.Statement.{statement}
 use Rattle.graph.proofs.weigh.latest.Tie as tie
 
 abbrev Inv-loop : tie.InvT-loop
-Inv-loop n arrows first next finish to most₀ c₀ most c = LookedAt arrows finish to c most
+Inv-loop n arrows first next finish to most₀ c₀ most c = LookedAt n arrows first next finish to c most
 
 abbrev μ-loop : tie.MeasureT-loop
 μ-loop n arrows first next finish to most₀ c₀ most c = c
+
+-- at the arrow at the cursor, which comes from p
+at-arrow : (c : tie.After-source Inv-loop μ-loop)
+    → let args = c .before .before .before .before .args in
+    Looks (args .n) (now (args .arrows)) (args .v .0) (c .before .before .loop .c) (c .source .result .0)
+at-arrow c = let r = c .before .before .loop .inv in looks (r .tidy) (r .along) (c .before .loop-test .taken) (c .source .ensures .0)
 
 chain-begin-requires : tie.Need-chain-begin-requires Inv-loop μ-loop
 chain-begin-requires c κs = c .pre .0 .1
 
 loop-holds : tie.Need-loop-holds Inv-loop μ-loop
-loop-holds c =
-    let c-pre = c .before .pre in
-    rw (c .chain-begin .ensures) (looked-start _ _ _ _ (c-pre .1 .start (c .before .args .v .0) (c-pre .0 .1)))
+loop-holds c = let pre = c .before .pre in rw (c .chain-begin .ensures) (looked-start (pre .0 .0) (pre .1) _ (pre .0 .1))
 
 source-requires : tie.Need-source-requires Inv-loop μ-loop
-source-requires c κs = (omega arith, c .before .loop .inv .cap)
+source-requires c κs = (omega arith, c .before .loop .inv .along .within)
 
 mul-larger : tie.Need-mul-larger Inv-loop μ-loop
 mul-larger c = omega arith
 
 element-copy-out-larger : tie.Need-element-copy-out-larger Inv-loop μ-loop
-element-copy-out-larger c =
-    let c-pre = c .before .before .before .before .pre in
-    let c-loop = c .before .before .loop in
-    from-small (c-pre .0 .0) _ _ (look-at _ _ (c-pre .0 .0) _ _ _ _ _ (c-loop .inv) (c .before .loop-test .taken) refl) (c .source .ensures .0)
-
-larger-requires : tie.Need-larger-requires Inv-loop μ-loop
-larger-requires c κs = search needs
+element-copy-out-larger c = at-arrow c .from-small
 
 chain-next-requires : tie.Need-chain-next-requires Inv-loop μ-loop
-chain-next-requires c κs =
-    let c-pre = c .before .before .before .before .before .before .pre in
-    let c-loop = c .before .before .before .before .loop in
-    (omega arith, omega (arith, c-pre .0 .0 .few, c-loop .inv .cap))
+chain-next-requires c κs = (at-arrow (c .before .before) .some, at-arrow (c .before .before) .few)
 
-looks : tie.Need-loop-again Inv-loop μ-loop × tie.Need-loop-less Inv-loop μ-loop
-looks = both (λ c.
-    let c-pre = c .before .before .before .before .before .before .before .pre in
-    let c-loop = c .before .before .before .before .before .loop in
-    let c-loop-test = c .before .before .before .before .loop-test in
-    let c-source = c .before .before .before .source in
-    let last = rw (← c .chain-next .ensures) at (c-pre .1 .step (c-loop .c - 1) (look-at _ _ (c-pre .0 .0) _ _ _ _ _ (c-loop .inv) (c-loop-test .taken) refl)) in
-    (looked-more _ _ (c-pre .0 .0) _ _ _ _ _ (c-loop .inv) (c-loop-test .taken) (c-source .ensures .0) _ _ (c .before .larger .ensures) last, omega (arith, last .within)))
+turns : tie.Need-loop-again Inv-loop μ-loop × tie.Need-loop-less Inv-loop μ-loop
+turns = both (λ c.
+    let arrow = c .before .before .before in
+    rw (c .chain-next .ensures) (looked-more (arrow .before .before .loop .inv) (at-arrow arrow) (c .before .larger .ensures)))
 
 returns : tie.Need-returns Inv-loop μ-loop
 returns c =
     let c-args = c .before .before .before .args in
     let c-loop = c .before .loop in
-    let r : LookedAt (now (c-args .arrows)) (now (c-args .finish)) (c-args .v .0) 0 (c-loop .most) = rw (c .loop-test .left) at (c-loop .inv) in r .latest
+    let r : Latest (now (c-args .arrows)) (now (c-args .finish)) (c-args .v .0) 0 (c-loop .most) = rw (c .loop-test .left) at (c-loop .inv .latest) in r
 
 pub latest-spec : {M : Type 1} → statement M
 latest-spec =
@@ -71,8 +60,8 @@ latest-spec =
     source-requires
     mul-larger
     element-copy-out-larger
-    larger-requires
+    (λ c κs. tt)
     chain-next-requires
-    (looks .1)
-    (looks .0)
+    (turns .1)
+    (turns .0)
     returns)

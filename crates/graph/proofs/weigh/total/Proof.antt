@@ -1,5 +1,5 @@
 -- `total`: the sum is the total work. Assumes nothing.
-use mathlib.Core.Path.{_≡_, refl, ap, sym, _∙_}
+use mathlib.Core.Path.{_≡_, refl}
 use Prim.Native.Nat.{suc, _-_, _*_, _≤_}
 use native.Mathlib.Omega.{arith}
 use native.Mathlib.Numerals.{add-one}
@@ -24,9 +24,6 @@ loop-holds c = (omega arith, c .before .pre, omega arith, refl)
 
 add-i : tie.Need-add-i Inv-loop μ-loop
 add-i c = search needs
-
-time-of-requires : tie.Need-time-of-requires Inv-loop μ-loop
-time-of-requires c κs = search needs
 
 add-sum : tie.Need-add-sum Inv-loop μ-loop
 add-sum c = omega (arith, c .time-of .ensures .small)
@@ -56,7 +53,7 @@ total-spec =
     μ-loop
     loop-holds
     add-i
-    time-of-requires
+    (λ c κs. tt)
     add-sum
     loop-less
     loop-again
