@@ -4,19 +4,21 @@ use mathlib.Core.List.{List}
 use Prim.Native.Nat.{ℕ, _-_}
 use lib.ListN.{length, take, drop, replicate}
 use Rattle.terms.specs.Rows.{Accepted, RefusedBy}
-use Rattle.terms.specs.Plans.{notPlaced, EndsAt}
+use Rattle.terms.specs.Plans.{notPlaced}
 use Rattle.terms.specs.ListRule.{IsListPlan}
 use Rattle.terms.specs.Refusals.{listRows}
+use Rattle.terms.specs.Replies.{IsChecked}
 use Rattle.terms.specs.declared.Entry.{Entry}
+use Rattle.terms.specs.declared.Refusal.{Refusal}
 use Rattle.terms.specs.declared.PlanEnd.{PlanEnd}
 use Rattle.terms.specs.declared.PlanEnd.the-variants.{Ends, Refused}
 use Rattle.listplan.specs.declared.Draft.{Draft}
 
--- the first n entries, one for each subtask, are the list plan, and E is its end
+-- the first n entries, one for each subtask, are the list plan, and the plan check of them replies its end, E
 pub record HoldsPlan (times : List ℕ) (arrows : List (List ℕ)) (M : ℕ) (order : List ℕ) (entries : List Entry) (n E : ℕ) : Type 0 where
   pub count : n ≡ length times
   pub plan : IsListPlan times arrows order M (take n entries)
-  pub ends : EndsAt times (take n entries) E
+  pub checked : IsChecked times arrows M (take n entries) (Ends E)
 
 -- case by case of the reply; with a refusal nothing is to be written
 unfoldable pub IsDrafted : List ℕ → List (List ℕ) → ℕ → List ℕ → ℕ → List Entry → ℕ → PlanEnd → Type 0
@@ -32,9 +34,17 @@ pub record IsDraft (times : List ℕ) (arrows : List (List ℕ)) (M : ℕ) (orde
   pub drafted : IsDrafted times arrows M order room (draft .entries) (draft .n) (draft .reply)
   pub table : BlankFrom (draft .entries) (draft .n)
 
+-- ---- its two cases
+
 -- the list plan with its end
-pub record IsDrawn (times : List ℕ) (arrows : List (List ℕ)) (M : ℕ) (order : List ℕ) (draft : Draft) : Type 0 where
+pub record IsPlanned (times : List ℕ) (arrows : List (List ℕ)) (M : ℕ) (order : List ℕ) (draft : Draft) : Type 0 where
   pub end : ℕ
   pub reply : draft .reply ≡ Ends end
   pub holds : HoldsPlan times arrows M order (draft .entries) (draft .n) end
   pub table : BlankFrom (draft .entries) (draft .n)
+
+-- the refusal, and nothing to be written
+pub record IsRefused (refusal : Refusal) (draft : Draft) : Type 0 where
+  pub reply : draft .reply ≡ Refused refusal
+  pub none : draft .n ≡ 0
+  pub table : draft .entries ≡ replicate 256 notPlaced

@@ -1,4 +1,4 @@
--- A row of marks for the subtasks that an order has named so far. Assumes nothing.
+-- A row of marks for the subtasks that an order has named so far: it tells whether one stands twice. Assumes nothing.
 use mathlib.Core.Path.{_≡_, refl, sym, ap, _∙_}
 use mathlib.Core.Logic.{_≢_, by-cases}
 use mathlib.Core.List.{List}
@@ -8,11 +8,10 @@ use native.Mathlib.Decide.{ℕ-discrete}
 use lib.ListN.{length, getD, set, replicate, length-set, length-replicate}
 use Rattle.terms.specs.Graphs.{IsSubtask}
 use Rattle.terms.specs.ListRule.{IsOrder}
-use Rattle.graph.proofs.Stores.{read-set}
-use Rattle.listplan.proofs.Items.{read-noughts}
+use Rattle.theory.proofs.Stores.{read-set, read-noughts}
 
 -- the first x of the order are subtasks, each once, and just these are marked
-pub record Seen (times order seen : List ℕ) (x : ℕ) : Type 0 where
+pub record Named (times order seen : List ℕ) (x : ℕ) : Type 0 where
   pub within : x ≤ length order
   pub long : length seen ≡ 257
   pub each : (y : ℕ) → y < x → IsSubtask times (getD order y 0)
@@ -20,8 +19,8 @@ pub record Seen (times order seen : List ℕ) (x : ℕ) : Type 0 where
   pub marked : (y : ℕ) → y < x → getD seen (getD order y 0) 0 ≡ 1
   pub known : (s : ℕ) → getD seen s 0 ≡ 1 → (y : ℕ) × (y < x) × (getD order y 0 ≡ s)
 
-pub seen-none : (times order : List ℕ) → Seen times order (replicate 257 0) 0
-seen-none times order = record {
+pub none-named : {times order : List ℕ} → Named times order (replicate 257 0) 0
+none-named = record {
   within = omega arith;
   long = length-replicate {A = ℕ} 257 0;
   each = λ y l. absurd (omega arith);
@@ -33,30 +32,33 @@ seen-none times order = record {
     none : (s : ℕ) → ¬ (_≡_ {A = ℕ} (getD (replicate 257 0) s 0) 1)
     none s e = omega (arith, read-noughts 257 s)
 
-module _ (times order seen : List ℕ) (x s : ℕ) (h : Seen times order seen x) (l : x < length order) (e : s ≡ getD order x 0) where
-  pub seen-more : length times ≤ 256 → 1 ≤ s → s ≤ length times → getD seen s 0 ≢ 1 → Seen times order (set seen s 1) (x + 1)
-  seen-more b low high new = record {
+module _ {times order seen : List ℕ} {x j : ℕ} (h : Named times order seen x) (l : x < length order) (e : j ≡ getD order x 0) where
+  pub named-more : length times ≤ 256 → 1 ≤ j → j ≤ length times → getD seen j 0 ≢ 1 → Named times order (set seen j 1) (x + 1)
+  named-more b low high new = record {
     within = omega arith;
-    long = length-set seen s 1 ∙ h .long;
+    long = length-set seen j 1 ∙ h .long;
     each = λ y m. by-cases (ℕ-discrete y x) (λ c. rw (same y c) (record { low = low; high = high })) (λ c. h .each y (omega arith));
     once = λ y z m n c. by-cases (ℕ-discrete z x)
         (λ d. new (rw (c ∙ same z d) at (h .marked y (omega arith))))
         (λ d. h .once y z m (omega arith) c);
-    marked = λ y m. read-set (λ k. k ≡ 1) seen s 1 (getD order y 0) room (λ _. refl)
+    marked = λ y m. read-set (λ k. k ≡ 1) seen j 1 (getD order y 0) room (λ _. refl)
         (λ c. by-cases (ℕ-discrete y x) (λ d. absurd (c (same y d))) (λ d. h .marked y (omega arith)));
-    known = λ k. read-set (λ z. z ≡ 1 → (y : ℕ) × (y < x + 1) × (getD order y 0 ≡ k)) seen s 1 k room
+    known = λ k. read-set (λ z. z ≡ 1 → (y : ℕ) × (y < x + 1) × (getD order y 0 ≡ k)) seen j 1 k room
         (λ c _. (x, omega arith, sym (c ∙ e)))
         (λ c d. let r = h .known k d in (r .0, omega (arith, r .1), r .2));
   }
     where
-      same : (y : ℕ) → y ≡ x → getD order y 0 ≡ s
+      same : (y : ℕ) → y ≡ x → getD order y 0 ≡ j
       same y c = ap (λ (k : ℕ). getD order k 0) c ∙ sym e
 
-      room : s < length seen
+      room : j < length seen
       room = omega (arith, h .long)
 
-  pub twice : getD seen s 0 ≡ 1 → ¬ IsOrder times order
-  twice d o = let r = h .known s d in o .once (r .0) x (r .1) l (r .2 ∙ e)
+  pub not-outside : ¬ IsSubtask times j → ¬ IsOrder times order
+  not-outside d o = d (rw e (o .each x l))
 
-pub seen-all : (times order seen : List ℕ) (x : ℕ) → Seen times order seen x → length order ≡ length times → length order ≤ x → IsOrder times order
-seen-all times order seen x h e l = record { whole = e; each = λ y m. h .each y (omega arith); once = λ y z m n. h .once y z m (omega arith) }
+  pub not-twice : getD seen j 0 ≡ 1 → ¬ IsOrder times order
+  not-twice d o = let r = h .known j d in o .once (r .0) x (r .1) l (r .2 ∙ e)
+
+pub all-named : {times order seen : List ℕ} {x : ℕ} → Named times order seen x → length order ≡ length times → length order ≤ x → IsOrder times order
+all-named h e l = record { whole = e; each = λ y m. h .each y (omega arith); once = λ y z m n. h .once y z m (omega arith) }
