@@ -11,10 +11,10 @@ use Rattle.terms.specs.ListRule.{IsOrder, begin}
 use Rattle.theory.specs.Sound.{SoundGraph}
 use Rattle.theory.proofs.Stores.{read-noughts}
 use Rattle.theory.proofs.Counting.{count-same, count-none, count-some}
-use Rattle.forms.specs.Entries.{itemOf}
-use Rattle.forms.proofs.Entered.{entries-none}
+use Rattle.forms.specs.Forms.{never, itemOf}
+use Rattle.forms.proofs.TwoRows.{entries-none}
 use Rattle.listplan.specs.Tables.{Roomy, ArrowsTo, Distinct, Sources, Grouped}
-use Rattle.listplan.specs.Making.{never, Job, waits, Holding, unended, Making}
+use Rattle.listplan.specs.Making.{Job, waits, Holding, unended, Making}
 use Rattle.listplan.proofs.Following.{Following}
 use Rattle.listplan.proofs.Scans.{none-yet, none-free}
 

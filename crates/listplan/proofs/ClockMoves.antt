@@ -12,8 +12,8 @@ use Rattle.terms.specs.Plans.{processorOf, endOf, Placed, IdleAt}
 use Rattle.terms.specs.ListRule.{ByRule, IsListPlan}
 use Rattle.theory.proofs.ListRule.{by-rule, ends-early, still-early}
 use Rattle.theory.proofs.Clock.{jump}
-use Rattle.forms.specs.Entries.{entries, itemOf}
-use Rattle.listplan.specs.Making.{never, Job, Unended, waits, runs, Making, Soonest}
+use Rattle.forms.specs.Forms.{never, entries, itemOf}
+use Rattle.listplan.specs.Making.{Job, Unended, waits, runs, Making, Soonest}
 use Rattle.listplan.proofs.Ready.{processor-is, end-is, so-far, in-range, still-there}
 
 module _ {times : List ℕ} {arrows : List (List ℕ)} {order : List ℕ} {M : ℕ} {first next rank : List ℕ} (job : Job times arrows order M first next rank)

@@ -10,10 +10,10 @@ use Rattle.terms.specs.Graphs.{Among, IsSubtask, fromOf}
 use Rattle.theory.specs.First.{NoneBelow, FirstBelow}
 use Rattle.theory.proofs.Stores.{read-set}
 use Rattle.theory.proofs.Counting.{count-same}
-use Rattle.forms.specs.Entries.{itemOf, finishOf}
+use Rattle.forms.specs.Forms.{never, itemOf, finishOf}
 use Rattle.graph.specs.Chains.{Last}
 use Rattle.listplan.specs.Tables.{Grouped}
-use Rattle.listplan.specs.Making.{never, Job, Unended, waits, runs, Holding, unended, uncounted, IsOn, Making, IsMarked, IsDue}
+use Rattle.listplan.specs.Making.{Job, Unended, waits, runs, Holding, unended, uncounted, IsOn, Making, IsMarked, IsDue}
 use Rattle.listplan.proofs.Following.{Following}
 use Rattle.listplan.proofs.Scans.{none-free}
 

@@ -1,6 +1,6 @@
 pub mod Scans
 pub mod OrderTest
-pub mod ArrowCounts
+pub mod ChainedArrows
 pub mod Ranking
 pub mod Following
 pub mod Ready
@@ -10,3 +10,5 @@ pub mod CountingOff
 pub mod ClockMoves
 pub mod Beginning
 pub mod Steps
+pub mod Drafted
+pub mod OneDraft

@@ -32,10 +32,25 @@ none-named = record {
     none : (s : ℕ) → ¬ (_≡_ {A = ℕ} (getD (replicate 257 0) s 0) 1)
     none s e = omega (arith, read-noughts 257 s)
 
-module _ {times order seen : List ℕ} {x j : ℕ} (h : Named times order seen x) (l : x < length order) (e : j ≡ getD order x 0) where
+-- place x of the order, that of number j, comes next
+pub record NextNamed (times order seen : List ℕ) (x j : ℕ) : Type 0 where
+  pub so-far : Named times order seen x
+  pub inside : x < length order
+  pub stands : j ≡ getD order x 0
+
+module _ {times order seen : List ℕ} {x j : ℕ} (here : NextNamed times order seen x j) where
+  h : Named times order seen x
+  h = here .so-far
+
+  l : x < length order
+  l = here .inside
+
+  e : j ≡ getD order x 0
+  e = here .stands
+
   pub named-more : length times ≤ 256 → 1 ≤ j → j ≤ length times → getD seen j 0 ≢ 1 → Named times order (set seen j 1) (x + 1)
   named-more b low high new = record {
-    within = omega arith;
+    within = omega (arith, l);
     long = length-set seen j 1 ∙ h .long;
     each = λ y m. by-cases (ℕ-discrete y x) (λ c. rw (same y c) (record { low = low; high = high })) (λ c. h .each y (omega arith));
     once = λ y z m n c. by-cases (ℕ-discrete z x)

@@ -28,9 +28,34 @@ ranked-none r e l = record {
   none = λ y m. absurd (omega arith);
 }
 
-module _ {order left rank R G : List ℕ} {x j : ℕ} (d : Distinct order) (l : x < length order) (e : j ≡ getD order x 0) (h : Ranked order left rank R G x) where
+-- place x of the order, that of subtask j, comes next
+pub record NextPlace (order left rank R G : List ℕ) (x j : ℕ) : Type 0 where
+  pub so-far : Ranked order left rank R G x
+  pub distinct : Distinct order
+  pub inside : x < length order
+  pub stands : j ≡ getD order x 0
+
+module _ {order left rank R G : List ℕ} {x j : ℕ} (here : NextPlace order left rank R G x j) where
+  h : Ranked order left rank R G x
+  h = here .so-far
+
+  d : Distinct order
+  d = here .distinct
+
+  l : x < length order
+  l = here .inside
+
+  e : j ≡ getD order x 0
+  e = here .stands
+
+  pub subtask-in : j < 257
+  subtask-in = omega (arith, e, d .small x l)
+
+  pub place-in : x < 256
+  place-in = omega (arith, l, d .few)
+
   room : x < length R
-  room = omega (arith, h .sources .long, d .few)
+  room = omega (arith, h .sources .long, place-in)
 
   same : (y : ℕ) → y ≡ x → getD order y 0 ≡ j
   same y q = ap (λ (k : ℕ). getD order k 0) q ∙ sym e
@@ -38,14 +63,14 @@ module _ {order left rank R G : List ℕ} {x j : ℕ} (d : Distinct order) (l : 
   ranks-more : Ranks order (set rank j x) (x + 1)
   ranks-more = record {
     long = length-set rank j x ∙ h .ranks .long;
-    stands = λ y m. read-set (λ z. z ≡ y) rank j x (getD order y 0) (omega (arith, h .ranks .long, d .small x l))
+    stands = λ y m. read-set (λ z. z ≡ y) rank j x (getD order y 0) (omega (arith, h .ranks .long, subtask-in))
         (λ q. by-cases (ℕ-discrete y x) (λ z. sym z) (λ z. absurd (d .once y x (omega arith) l (q ∙ e))))
         (λ q. by-cases (ℕ-discrete y x) (λ z. absurd (q (same y z))) (λ z. h .ranks .stands y (omega arith)));
   }
 
   source : getD left j 0 ≡ 0 → Ranked order left (set rank j x) (set R x 1) (set G (x / 16) 1) (x + 1)
   source z = record {
-    within = omega arith;
+    within = omega (arith, l);
     ranks = ranks-more;
     sources = record {
       long = length-set R x 1 ∙ h .sources .long;
@@ -55,14 +80,14 @@ module _ {order left rank R G : List ℕ} {x j : ℕ} (d : Distinct order) (l : 
     };
     blank = λ y m. read-set (λ k. k ≡ 0) R x 1 y room (λ q. absurd (omega arith)) (λ q. h .blank y (omega arith));
     long = length-set G (x / 16) 1 ∙ h .long;
-    none = λ y m. read-set (λ k. k ≡ 0 → getD (set R x 1) y 0 ≢ 1) G (x / 16) 1 (y / 16) (omega (arith, h .long, d .few))
+    none = λ y m. read-set (λ k. k ≡ 0 → getD (set R x 1) y 0 ≢ 1) G (x / 16) 1 (y / 16) (omega (arith, h .long, place-in))
         (λ _ q. absurd (omega arith))
         (λ q f. read-set (λ k. k ≢ 1) R x 1 y room (λ w. absurd (q (ap (λ (k : ℕ). k / 16) w))) (λ w. h .none y (omega arith) f));
   }
 
   other : getD left j 0 ≢ 0 → Ranked order left (set rank j x) R G (x + 1)
   other n = record {
-    within = omega arith;
+    within = omega (arith, l);
     ranks = ranks-more;
     sources = record {
       long = h .sources .long;

@@ -12,8 +12,8 @@ use Rattle.theory.specs.First.{FirstBelow}
 use Rattle.theory.proofs.Accepted.{from-subtask}
 use Rattle.theory.proofs.ListRule.{SoFar, by-rule}
 use Rattle.theory.proofs.ListExists.{holds}
-use Rattle.forms.specs.Entries.{entries, itemOf, finishOf}
-use Rattle.forms.proofs.Entered.{entries-processor, entries-start, entries-end}
+use Rattle.forms.specs.Forms.{entries, itemOf, finishOf}
+use Rattle.forms.proofs.TwoRows.{entries-processor, entries-start, entries-end}
 use Rattle.listplan.specs.Making.{Job, Unended, waits, runs, Holding, unended, uncounted, Open, Making, IsFree, ToGo}
 
 -- what has ended has gone

@@ -10,8 +10,9 @@ use borrow.Author.Count.{below-more}
 use Rattle.terms.specs.Graphs.{Among}
 use Rattle.theory.specs.First.{NoneBelow, FirstBelow}
 use Rattle.theory.proofs.Stores.{read-set}
+use Rattle.forms.specs.Forms.{never}
 use Rattle.listplan.specs.Tables.{Grouped}
-use Rattle.listplan.specs.Making.{never, IsMarked, IsFree, IsDue, Soonest}
+use Rattle.listplan.specs.Making.{IsMarked, IsFree, IsDue, Soonest}
 
 -- ---- whatever is looked for
 

@@ -12,10 +12,10 @@ use Rattle.terms.specs.ListRule.{Goes, ByRule, goes}
 use Rattle.theory.specs.First.{FirstBelow}
 use Rattle.theory.proofs.Stores.{read-set}
 use Rattle.theory.proofs.Counting.{count-same}
-use Rattle.forms.specs.Entries.{entries, itemOf, finishOf}
-use Rattle.forms.proofs.Entered.{entries-put}
+use Rattle.forms.specs.Forms.{never, entries, itemOf, finishOf}
+use Rattle.forms.proofs.TwoRows.{entries-put}
 use Rattle.listplan.specs.Tables.{Grouped}
-use Rattle.listplan.specs.Making.{never, Job, Unended, waits, runs, Holding, unended, uncounted, Open, IsOn, Holders, Lefts, Marks, Making, IsMarked, IsFree}
+use Rattle.listplan.specs.Making.{Job, Unended, waits, runs, Holding, unended, uncounted, Open, IsOn, Holders, Lefts, Marks, Making, IsMarked, IsFree}
 use Rattle.listplan.proofs.Following.{Following}
 use Rattle.listplan.proofs.Scans.{unmarked-low}
 use Rattle.listplan.proofs.Ready.{same-length, open-ready, is-free, is-busy, ready-open}

@@ -1,6 +1,6 @@
--- A list plan in the making, as its tables have it: `processors` and `starts` hold the processor and start of each subtask, `until` and
--- `who` the end and the number of the subtask on each processor, `left` how many arrows hold each subtask back, `ready` a mark for each
--- place of the order whose subtask can go.
+-- A list plan in the making, as its tables have it: `processors` and `starts` hold the processor and start of each subtask; `until` and
+-- `who` the end and the number of the subtask on each processor, `never` and 0 where nobody is on it (place 0 is not used); `left` how
+-- many arrows hold each subtask back; `ready` a mark for each place of the order whose subtask can go.
 use mathlib.Core.Path.{_≡_}
 use mathlib.Core.Logic.{_≢_}
 use mathlib.Core.List.{List}
@@ -12,13 +12,9 @@ use Rattle.terms.specs.ListRule.{IsOrder, ByRule}
 use Rattle.theory.specs.Sound.{SoundGraph}
 use Rattle.theory.specs.First.{FirstBelow}
 use Rattle.theory.specs.Counting.{Count}
-use Rattle.forms.specs.Entries.{entries, itemOf, finishOf}
+use Rattle.forms.specs.Forms.{never, entries, itemOf, finishOf}
 use Rattle.graph.specs.Chains.{Chains}
 use Rattle.listplan.specs.Tables.{Ranks, MarkedIf}
-
--- the end of a processor that nobody is on
-abbrev pub never : ℕ
-never = 4294967295
 
 -- what stays the same
 pub record Job (times : List ℕ) (arrows : List (List ℕ)) (order : List ℕ) (M : ℕ) (first next rank : List ℕ) : Type 0 where

@@ -2,13 +2,12 @@
 mod order;
 mod rule;
 mod scan;
-mod table;
 mod tables;
 
 use crate::order::is_order;
 use crate::rule::make_plan;
-use crate::table::blank;
-use crate::table::join;
+use forms::blank;
+use forms::join;
 use forms::last_end;
 use graph::check_on;
 use inputs::usize_from_u32;

@@ -1,5 +1,4 @@
 // The list rule at work: from one end to the next.
-use crate::scan::NEVER;
 use crate::scan::first_due;
 use crate::scan::first_free;
 use crate::scan::next_to_go;
@@ -8,6 +7,7 @@ use crate::scan::unmark;
 use crate::tables::chain_arrows;
 use crate::tables::mark;
 use crate::tables::rank_subtasks;
+use forms::NEVER;
 use inputs::subtask_at;
 use inputs::time_of;
 use inputs::to_at;
@@ -22,9 +22,9 @@ ghost use Rattle.terms.specs.Graphs.{Among, IsSubtask, timeOf, toOf};
 ghost use Rattle.terms.specs.Paths.{totalWork};
 ghost use Rattle.terms.specs.ListRule.{IsOrder, IsListPlan};
 ghost use Rattle.theory.specs.Sound.{SoundGraph};
-ghost use Rattle.forms.specs.Entries.{entries};
+ghost use Rattle.forms.specs.Forms.{never, entries};
 ghost use Rattle.listplan.specs.Tables.{Grouped};
-ghost use Rattle.listplan.specs.Making.{never, Job, Sizes, Making, CountedOff};
+ghost use Rattle.listplan.specs.Making.{Job, Sizes, Making, CountedOff};
 
 // Counts off the arrow at a place of the row. No place of the order below `low` is marked; the answer is a place below which none is now.
 fn count_off(
@@ -143,7 +143,16 @@ fn follow_rule(
         let x = next_to_go(ready, groups, low, order.len(), free, m);
         if x < order.len() {
             let subtask = subtask_at(order, x);
-            start_on(times, processors, starts, &mut until, &mut who, subtask, free, t);
+            start_on(
+                times,
+                processors,
+                starts,
+                &mut until,
+                &mut who,
+                subtask,
+                free,
+                t,
+            );
             unmark(ready, groups, x);
             low = x + 1;
             continue;

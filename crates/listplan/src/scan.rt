@@ -1,4 +1,5 @@
 // Scans over the processors and over the places of the order. A processor's place in a table is its number; place 0 is not used.
+use forms::NEVER;
 use inputs::usize_from_u8;
 use terms::Processor;
 ghost use mathlib.Core.Path.{_≡_};
@@ -8,9 +9,6 @@ ghost use Rattle.terms.specs.Graphs.{Among};
 ghost use Rattle.theory.specs.First.{NoneBelow, FirstBelow};
 ghost use Rattle.listplan.specs.Tables.{Grouped};
 ghost use Rattle.listplan.specs.Making.{IsMarked, IsFree, IsDue, ToGo, Soonest};
-
-// The end of a processor that nobody is on.
-pub const NEVER: u32 = 4294967295;
 
 // The sooner of two ends.
 fn sooner(a: u32, b: u32) -> u32
