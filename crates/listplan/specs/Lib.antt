@@ -1,4 +1,3 @@
-pub mod Flags
 pub mod Tables
 pub mod Making
 pub mod Drafts

@@ -1,15 +1,11 @@
 -- The tables that are made once for a list plan, beside the chains: how many arrows go to each subtask, and where each stands in the order.
 use mathlib.Core.Path.{_≡_}
-use mathlib.Core.Logic.{_≢_, _⊎_}
+use mathlib.Core.Logic.{_≢_}
 use mathlib.Core.List.{List}
-use Prim.Native.Nat.{ℕ, zero, suc, _-_, _/_, _≤_, _<_}
+use Prim.Native.Nat.{ℕ, _/_, _≤_, _<_}
 use lib.ListN.{length, getD, set}
 use Rattle.terms.specs.Graphs.{fromOf, toOf}
-
--- k of the places below n are so
-unfoldable pub Count : (ℕ → Type 0) → ℕ → ℕ → Type 0
-Count IsSo zero k = k ≡ 0
-Count IsSo (suc n) k = (IsSo n × (1 ≤ k) × Count IsSo n (k - 1)) ⊎ ((¬ IsSo n) × Count IsSo n k)
+use Rattle.theory.specs.Counting.{Count}
 
 -- what the tables have room for
 pub record Roomy (arrows : List (List ℕ)) : Type 0 where
@@ -18,7 +14,7 @@ pub record Roomy (arrows : List (List ℕ)) : Type 0 where
   pub to-small : (a : ℕ) → a < length arrows → toOf arrows a < 257
 
 -- how many of the arrows below b go to each subtask
-pub record Tally (arrows : List (List ℕ)) (left : List ℕ) (b : ℕ) : Type 0 where
+pub record ArrowsTo (arrows : List (List ℕ)) (left : List ℕ) (b : ℕ) : Type 0 where
   pub long : length left ≡ 257
   pub count : (s : ℕ) → s < 257 → Count (λ a. toOf arrows a ≡ s) b (getD left s 0)
 
@@ -33,15 +29,15 @@ pub record Ranks (order rank : List ℕ) (b : ℕ) : Type 0 where
   pub long : length rank ≡ 257
   pub stands : (x : ℕ) → x < b → getD rank (getD order x 0) 0 ≡ x
 
--- G has a 0 only for a group of sixteen places of which none is marked
-pub record Grouped (R G : List ℕ) : Type 0 where
-  pub long : length G ≡ 16
-  pub none : (y : ℕ) → y < 256 → getD G (y / 16) 0 ≡ 0 → getD R y 0 ≢ 1
+-- there is a 0 only for a group of sixteen places of which none is marked
+pub record Grouped (ready groups : List ℕ) : Type 0 where
+  pub long : length groups ≡ 16
+  pub none : (y : ℕ) → y < 256 → getD groups (y / 16) 0 ≡ 0 → getD ready y 0 ≢ 1
 
 -- place x is marked where k is 0
-pub record MarkedIf (k : ℕ) (R G R′ G′ : List ℕ) (x : ℕ) : Type 0 where
-  pub ifSo : k ≡ 0 → (R′ ≡ set R x 1) × (G′ ≡ set G (x / 16) 1)
-  pub ifNot : k ≢ 0 → (R′ ≡ R) × (G′ ≡ G)
+pub record MarkedIf (k : ℕ) (ready groups ready′ groups′ : List ℕ) (x : ℕ) : Type 0 where
+  pub ifSo : k ≡ 0 → (ready′ ≡ set ready x 1) × (groups′ ≡ set groups (x / 16) 1)
+  pub ifNot : k ≢ 0 → (ready′ ≡ ready) × (groups′ ≡ groups)
 
 -- a mark says that no arrow goes there
 pub record Mark (arrows mark : ℕ) : Type 0 where

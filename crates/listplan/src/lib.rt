@@ -1,26 +1,27 @@
 // The list plan as a table of entries, with its reply: what is to be written into the lent row.
-mod make;
 mod order;
-mod prepare;
-mod read;
+mod rule;
 mod scan;
-mod table;
+mod tables;
 
 use crate::order::is_order;
-use crate::table::blank;
-use crate::table::draw;
-use graph::check;
-use lent::index;
+use crate::rule::make_plan;
+use forms::blank;
+use forms::join;
+use forms::last_end;
+use graph::check_on;
+use inputs::usize_from_u32;
 use terms::Check;
 use terms::Entry;
-use terms::MOST_PROCESSORS;
 use terms::PlanEnd;
 use terms::Refusal;
+use terms::refuse;
 ghost use mathlib.Core.Path.{_≡_};
-ghost use lib.ListN.{replicate};
-ghost use Rattle.terms.specs.Plans.{notPlaced};
-ghost use Rattle.terms.specs.declared.PlanEnd.the-variants as planEnd;
-ghost use Rattle.listplan.specs.Drafts.{IsDraft};
+ghost use lib.ListN.{length, replicate};
+ghost use Rattle.terms.specs.Graphs.{Among};
+ghost use Rattle.terms.specs.ListRule.{IsOrder};
+ghost use Rattle.theory.specs.Sound.{SoundGraph};
+ghost use Rattle.listplan.specs.Drafts.{IsRefused, IsPlanned, IsDraft};
 
 // What the list plan replies, and the entries to be written: the first n of the table, none with a refusal.
 pub struct Draft {
@@ -29,14 +30,36 @@ pub struct Draft {
     pub n: usize,
 }
 
-// The one place where a refusal is made here: it writes nothing.
-fn refused(number: u8) -> Draft
-    ensures { λ r. ⌜ (r .reply ≡ planEnd.Refused (record { number = number })) × (r .n ≡ 0) × (r .entries ≡ replicate 256 notPlaced) ⌝ }
+// The draft of an input that is refused: it writes nothing.
+fn refused(refusal: Refusal) -> Draft
+    ensures { λ r. ⌜ IsRefused refusal r ⌝ }
 {
     Draft {
-        reply: PlanEnd::Refused(Refusal { number }),
+        reply: PlanEnd::Refused(refusal),
         entries: blank(),
         n: 0,
+    }
+}
+
+// The draft of an input that is accepted: the list plan, made in two rows of noughts.
+fn planned(
+    times: &[u16],
+    arrows: &[[u16; 2]],
+    m: usize,
+    order: &[u16],
+    processors: &mut [u8],
+    starts: &mut [u32],
+) -> Draft
+    requires { ⌜ SoundGraph (now times) (now arrows) × Among 1 16 m × IsOrder (now times) (now order) ⌝ }
+    requires { ⌜ (now processors ≡ replicate (length (now times)) 0) × (now starts ≡ replicate (length (now times)) 0) ⌝ }
+    ensures { λ r. ⌜ IsPlanned (now (times .entry)) (now (arrows .entry)) m (now (order .entry)) r ⌝ }
+{
+    make_plan(times, arrows, m, order, processors, starts);
+    let end = last_end(times, starts) as u32;
+    Draft {
+        reply: PlanEnd::Ends(end),
+        entries: join(processors, starts),
+        n: times.len(),
     }
 }
 
@@ -44,31 +67,25 @@ fn refused(number: u8) -> Draft
 pub fn draft_plan(times: &[u16], arrows: &[[u16; 2]], m: u32, order: &[u16], room: usize) -> Draft
     ensures { λ r. ⌜ IsDraft (now (times .entry)) (now (arrows .entry)) m (now (order .entry)) room r ⌝ }
 {
-    match check(times, arrows) {
-        Check::Refused(refusal) => return refused(refusal.number),
+    match check_on(times, arrows, m) {
+        Check::Refused(refusal) => return refused(refusal),
         Check::Sound => {}
     }
-    if m < 1 {
-        return refused(8);
-    }
-    if MOST_PROCESSORS < m {
-        return refused(8);
-    }
     if !is_order(times, order) {
-        return refused(10);
+        return refused(refuse(10));
     }
     let n = times.len();
     if room < n {
-        return refused(11);
+        return refused(refuse(11));
     }
-    let mut procs = [0u8; 256];
+    let mut processors = [0u8; 256];
     let mut starts = [0u32; 256];
-    draw(
+    planned(
         times,
         arrows,
-        index(m),
+        usize_from_u32(m),
         order,
-        &mut procs[..n],
+        &mut processors[..n],
         &mut starts[..n],
     )
 }

@@ -1,9 +1,9 @@
 // Whether a row is an order of all subtasks.
-use crate::read::at_place;
+use inputs::subtask_at;
 ghost use Prim.Native.Nat.{_≤_};
 ghost use lib.ListN.{length};
 ghost use Rattle.terms.specs.ListRule.{IsOrder};
-ghost use Rattle.listplan.specs.Flags.{Says};
+ghost use Rattle.theory.specs.Flags.{Says};
 
 // 10 does not hold: the order has exactly n entries, each of 1..n once.
 pub fn is_order(times: &[u16], order: &[u16]) -> bool
@@ -16,17 +16,17 @@ pub fn is_order(times: &[u16], order: &[u16]) -> bool
     let mut seen = [0u8; 257];
     let mut x: usize = 0;
     while x < order.len() {
-        let s = at_place(order, x);
-        if s < 1 {
+        let j = subtask_at(order, x).0;
+        if j < 1 {
             return false;
         }
-        if times.len() < s {
+        if times.len() < j {
             return false;
         }
-        if seen[s] == 1 {
+        if seen[j] == 1 {
             return false;
         }
-        seen[s] = 1;
+        seen[j] = 1;
         x += 1;
     }
     true

@@ -1,13 +1,14 @@
-// Scans over the processors and over the places of the order.
-// The end of a processor that nobody is on.
-pub const NEVER: u32 = 4294967295;
-
+// Scans over the processors and over the places of the order. A processor's place in a table is its number; place 0 is not used.
+use forms::NEVER;
+use inputs::usize_from_u8;
+use terms::Processor;
 ghost use mathlib.Core.Path.{_≡_};
-ghost use Prim.Native.Nat.{_≤_, _<_, min};
+ghost use Prim.Native.Nat.{_+_, _≤_, _<_, min};
 ghost use lib.ListN.{length, set};
 ghost use Rattle.terms.specs.Graphs.{Among};
+ghost use Rattle.theory.specs.First.{NoneBelow, FirstBelow};
 ghost use Rattle.listplan.specs.Tables.{Grouped};
-ghost use Rattle.listplan.specs.Making.{NoneSo, FirstSo, IsMarked, IsFree, IsDue, ToGo, Soonest};
+ghost use Rattle.listplan.specs.Making.{IsMarked, IsFree, IsDue, ToGo, Soonest};
 
 // The sooner of two ends.
 fn sooner(a: u32, b: u32) -> u32
@@ -17,54 +18,54 @@ fn sooner(a: u32, b: u32) -> u32
 }
 
 // The soonest end, and NEVER where nobody is on a processor.
-pub fn soonest(until: &[u32; 16], m: usize) -> u32
-    requires { ⌜ Among 1 16 m × (length (now until) ≡ 16) ⌝ }
+pub fn soonest_end(until: &[u32; 17], m: usize) -> u32
+    requires { ⌜ Among 1 16 m × (length (now until) ≡ 17) ⌝ }
     ensures { λ r. ⌜ Soonest (now (until .entry)) m r ⌝ }
 {
     let mut end = NEVER;
-    let mut k: usize = 0;
-    while k < m {
-        end = sooner(end, until[k]);
-        k += 1;
+    let mut p: usize = 0;
+    while p < m {
+        p += 1;
+        end = sooner(end, until[p]);
     }
     end
 }
 
-// The first processor, counted from 0, with an end by t; m where there is none. Those below `from` are known to end later.
-pub fn first_due(until: &[u32; 16], m: usize, t: u32, from: usize) -> usize
-    requires { ⌜ Among 1 16 m × (length (now until) ≡ 16) × NoneSo (IsDue (now until) t) m from ⌝ }
-    ensures { λ r. ⌜ FirstSo (IsDue (now (until .entry)) t) m r ⌝ }
+// The first processor with an end by t; the one past m where there is none. Those before `from` are known to end later.
+pub fn first_due(until: &[u32; 17], m: usize, t: u32, from: Processor) -> Processor
+    requires { ⌜ Among 1 16 m × (length (now until) ≡ 17) × (1 ≤ from .0) × NoneBelow (IsDue (now until) t) (m + 1) (from .0) ⌝ }
+    ensures { λ r. ⌜ (1 ≤ r .0) × FirstBelow (IsDue (now (until .entry)) t) (m + 1) (r .0) ⌝ }
 {
-    let mut p = from;
-    while p < m {
+    let mut p = usize_from_u8(from.0);
+    while p <= m {
         if until[p] <= t {
-            return p;
+            return Processor(p as u8);
         }
         p += 1;
     }
-    p
+    Processor(p as u8)
 }
 
-// The first processor, counted from 0, that nobody is on; m where there is none. Those below `from` are known to be busy.
-pub fn first_free(who: &[u16; 16], m: usize, from: usize) -> usize
-    requires { ⌜ Among 1 16 m × (length (now who) ≡ 16) × NoneSo (IsFree (now who)) m from ⌝ }
-    ensures { λ r. ⌜ FirstSo (IsFree (now (who .entry))) m r ⌝ }
+// The first processor that nobody is on; the one past m where there is none. Those before `from` are known to be busy.
+pub fn first_free(who: &[u16; 17], m: usize, from: Processor) -> Processor
+    requires { ⌜ Among 1 16 m × (length (now who) ≡ 17) × (1 ≤ from .0) × NoneBelow (IsFree (now who)) (m + 1) (from .0) ⌝ }
+    ensures { λ r. ⌜ (1 ≤ r .0) × FirstBelow (IsFree (now (who .entry))) (m + 1) (r .0) ⌝ }
 {
-    let mut q = from;
-    while q < m {
-        if who[q] == 0 {
-            return q;
+    let mut p = usize_from_u8(from.0);
+    while p <= m {
+        if who[p] == 0 {
+            return Processor(p as u8);
         }
-        q += 1;
+        p += 1;
     }
-    q
+    Processor(p as u8)
 }
 
 // The first place of the order that is marked; n where there is none. Those below `low` are known not to be; groups of sixteen places with
 // a 0 are passed over.
 fn first_marked(ready: &[u8; 256], groups: &[u8; 16], low: usize, n: usize) -> usize
-    requires { ⌜ (n ≤ 256) × (length (now ready) ≡ 256) × Grouped (now ready) (now groups) × NoneSo (IsMarked (now ready)) n low ⌝ }
-    ensures { λ r. ⌜ FirstSo (IsMarked (now (ready .entry))) n r ⌝ }
+    requires { ⌜ (n ≤ 256) × (length (now ready) ≡ 256) × Grouped (now ready) (now groups) × NoneBelow (IsMarked (now ready)) n low ⌝ }
+    ensures { λ r. ⌜ FirstBelow (IsMarked (now (ready .entry))) n r ⌝ }
 {
     let mut x = low;
     while x < n {
@@ -79,19 +80,19 @@ fn first_marked(ready: &[u8; 256], groups: &[u8; 16], low: usize, n: usize) -> u
     n
 }
 
-// The place of the order whose subtask goes next, to processor q; n where there is no such place, or no processor.
+// The place of the order whose subtask goes next, to the free processor; n where there is no such place, or no processor.
 pub fn next_to_go(
     ready: &[u8; 256],
     groups: &[u8; 16],
     low: usize,
     n: usize,
-    q: usize,
+    free: Processor,
     m: usize,
 ) -> usize
-    requires { ⌜ (n ≤ 256) × (length (now ready) ≡ 256) × Grouped (now ready) (now groups) × NoneSo (IsMarked (now ready)) n low ⌝ }
-    ensures { λ r. ⌜ ToGo (now (ready .entry)) m q n r ⌝ }
+    requires { ⌜ (n ≤ 256) × (length (now ready) ≡ 256) × Grouped (now ready) (now groups) × NoneBelow (IsMarked (now ready)) n low ⌝ }
+    ensures { λ r. ⌜ ToGo (now (ready .entry)) m (free .0) n r ⌝ }
 {
-    if m <= q {
+    if m < usize_from_u8(free.0) {
         return n;
     }
     first_marked(ready, groups, low, n)
@@ -99,7 +100,7 @@ pub fn next_to_go(
 
 // Takes the mark off the first place that has one.
 pub fn unmark(ready: &mut [u8; 256], groups: &mut [u8; 16], x: usize)
-    requires { ⌜ (x < 256) × (length (now ready) ≡ 256) × Grouped (now ready) (now groups) × NoneSo (IsMarked (now ready)) 256 x ⌝ }
+    requires { ⌜ (x < 256) × (length (now ready) ≡ 256) × Grouped (now ready) (now groups) × NoneBelow (IsMarked (now ready)) 256 x ⌝ }
     ensures { λ _. ⌜ (now (ready .exit) ≡ set (now (ready .entry)) x 0) × Grouped (now (ready .exit)) (now (groups .exit)) ⌝ }
 {
     ready[x] = 0;

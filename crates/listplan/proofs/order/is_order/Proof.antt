@@ -2,54 +2,48 @@
 use Prim.Native.Nat.{_-_}
 use native.Mathlib.Omega.{arith}
 use lib.ListN.{length}
-use Rattle.listplan.proofs.Seen.{Seen, seen-none, seen-more, twice, seen-all}
+use denote.Ref.{now}
+use Rattle.listplan.proofs.OrderTest.{Named, NextNamed, none-named, named-more, not-outside, not-twice, all-named}
 use Rattle.listplan.proofs.order.is_order.Statement.{statement}
 use Rattle.listplan.proofs.order.is_order.Tie as tie
 
 abbrev Inv-loop : tie.InvT-loop
-Inv-loop times order seen₀ x₀ seen x = Seen times order seen x
+Inv-loop times order seen₀ x₀ seen x = Named times order seen x
 
 abbrev μ-loop : tie.MeasureT-loop
 μ-loop times order seen₀ x₀ seen x = length order - x
+
+abbrev start : tie.At-loop Inv-loop μ-loop → tie.Start Inv-loop μ-loop
+start c = c .before .before .before .before
+
+-- the place at hand
+here : (c : tie.After-subtask-at Inv-loop μ-loop) → NextNamed (now (start (c .before .before) .args .times)) (now (start (c .before .before) .args .order))
+    (c .before .before .loop .seen) (c .before .before .loop .x) (c .subtask-at .result .0)
+here c = record { so-far = c .before .before .loop .inv; inside = c .before .loop-test .taken; stands = c .subtask-at .ensures .0 }
 
 returns : tie.Need-returns Inv-loop μ-loop
 returns c = λ o. c .if1 .taken (o .whole)
 
 loop-holds : tie.Need-loop-holds Inv-loop μ-loop
-loop-holds c = seen-none _ _
+loop-holds c = none-named
 
-at-place-requires : tie.Need-at-place-requires Inv-loop μ-loop
-at-place-requires c κs = c .loop-test .taken
+subtask-at-requires : tie.Need-subtask-at-requires Inv-loop μ-loop
+subtask-at-requires c κs = tt
 
 returns-2 : tie.Need-returns-2 Inv-loop μ-loop
-returns-2 c =
-    let c-loop = c .before .before .before .loop in
-    let c-loop-test = c .before .before .loop-test in
-    λ o. omega (arith, o .each (c-loop .x) (c-loop-test .taken), c .before .at-place .ensures .0)
+returns-2 c = not-outside (here (c .before)) (λ s. omega (arith, s .low, c .if2 .taken))
 
 returns-3 : tie.Need-returns-3 Inv-loop μ-loop
-returns-3 c =
-    let c-loop = c .before .before .before .before .loop in
-    let c-loop-test = c .before .before .before .loop-test in
-    let c-at-place = c .before .before .at-place in
-    λ o. omega (arith, o .each (c-loop .x) (c-loop-test .taken), c-at-place .ensures .0)
+returns-3 c = not-outside (here (c .before .before)) (λ s. omega (arith, s .high, c .if3 .taken))
 
 array-read-if4 : tie.Need-array-read-if4 Inv-loop μ-loop
-array-read-if4 c =
-    let c-pre = c .before .before .before .before .before .before .before .before .pre in
-    omega (arith, c-pre)
+array-read-if4 c = omega (arith, c .if3 .left, start (c .before .before .before .before) .pre)
 
 returns-4 : tie.Need-returns-4 Inv-loop μ-loop
-returns-4 c =
-    let c-loop = c .before .before .before .before .before .loop in
-    let c-loop-test = c .before .before .before .before .loop-test in
-    let c-at-place = c .before .before .before .at-place in
-    twice _ _ _ _ _ (c-loop .inv) (c-loop-test .taken) (c-at-place .ensures .0) (c .if4 .taken)
+returns-4 c = not-twice (here (c .before .before .before)) (c .if4 .taken)
 
 array-write-seen : tie.Need-array-write-seen Inv-loop μ-loop
-array-write-seen c =
-    let c-pre = c .before .before .before .before .before .before .before .before .before .pre in
-    omega (arith, c-pre)
+array-write-seen c = array-read-if4 (c .before)
 
 add-x : tie.Need-add-x Inv-loop μ-loop
 add-x c = omega arith
@@ -59,18 +53,10 @@ loop-less c = omega arith
 
 loop-again : tie.Need-loop-again Inv-loop μ-loop
 loop-again c =
-    let c-loop = c .before .before .before .before .before .loop in
-    let c-loop-test = c .before .before .before .before .loop-test in
-    let c-at-place = c .before .before .before .at-place in
-    let c-pre = c .before .before .before .before .before .before .before .before .before .pre in
-    let c-if2 = c .before .before .if2 in
-    seen-more _ _ _ _ _ (c-loop .inv) (c-loop-test .taken) (c-at-place .ensures .0) (c-pre) (c-if2 .left) (c .before .if3 .left) (c .if4 .left)
+    named-more (here (c .before .before .before)) (start (c .before .before .before .before .before) .pre) (c .before .before .if2 .left) (c .before .if3 .left) (c .if4 .left)
 
 returns-5 : tie.Need-returns-5 Inv-loop μ-loop
-returns-5 c =
-    let c-loop = c .before .loop in
-    let c-if1 = c .before .before .if1 in
-    seen-all _ _ _ _ (c-loop .inv) (c-if1 .left) (c .loop-test .left)
+returns-5 c = all-named (c .before .loop .inv) (c .before .before .if1 .left) (c .loop-test .left)
 
 pub is-order-spec : {M : Type 1} → statement M
 is-order-spec =
@@ -80,7 +66,7 @@ is-order-spec =
     μ-loop
     returns
     loop-holds
-    at-place-requires
+    subtask-at-requires
     returns-2
     returns-3
     array-read-if4

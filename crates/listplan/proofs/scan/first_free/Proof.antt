@@ -1,47 +1,54 @@
 -- `first_free`: the first processor that nobody is on. Assumes nothing.
-use Prim.Native.Nat.{_-_}
+use Prim.Native.Nat.{_+_, _-_, _≤_}
 use native.Mathlib.Omega.{arith}
-use Rattle.listplan.specs.Making.{NoneSo, IsFree}
-use Rattle.listplan.proofs.Scanned.{none-more, first-here, first-none}
+use Rattle.theory.specs.First.{NoneBelow}
+use Rattle.listplan.specs.Making.{IsFree}
+use Rattle.listplan.proofs.Scans.{none-more, found, none-found}
 use Rattle.listplan.proofs.scan.first_free.Statement.{statement}
 use Rattle.listplan.proofs.scan.first_free.Tie as tie
 
 abbrev Inv-loop : tie.InvT-loop
-Inv-loop who m from q₀ q = NoneSo (IsFree who) m q
+Inv-loop who m p₀ p = (1 ≤ p) × NoneBelow (IsFree who) (m + 1) p
 
 abbrev μ-loop : tie.MeasureT-loop
-μ-loop who m from q₀ q = m - q
+μ-loop who m p₀ p = m + 1 - p
+
+-- at most 16 processors
+few : (c : tie.At-loop Inv-loop μ-loop) → c .before .before .args .m ≤ 16
+few c = c .before .before .pre .0 .high
+
+usize-from-u8-requires : tie.Need-usize-from-u8-requires Inv-loop μ-loop
+usize-from-u8-requires c κs = tt
 
 loop-holds : tie.Need-loop-holds Inv-loop μ-loop
-loop-holds c = c .pre .2
+loop-holds c = rw (c .usize-from-u8 .ensures .0) (c .before .pre .2, c .before .pre .3)
 
 mul-if1 : tie.Need-mul-if1 Inv-loop μ-loop
-mul-if1 c = omega (arith, c .before .before .pre .0 .high)
+mul-if1 c = omega (arith, few (c .before))
 
 element-copy-out-if1 : tie.Need-element-copy-out-if1 Inv-loop μ-loop
-element-copy-out-if1 c = omega (arith, c .before .before .pre .0 .high)
+element-copy-out-if1 c = omega (arith, few (c .before))
+
+cast-t10 : tie.Need-cast-t10 Inv-loop μ-loop
+cast-t10 c = omega (arith, few (c .before .before .before))
 
 returns : tie.Need-returns Inv-loop μ-loop
-returns c =
-    let c-loop = c .before .before .before .loop in
-    first-here (c-loop .inv) (c .if1 .taken)
+returns c = let p = c .before .before .before .loop .inv in (p .0, found (p .1) (record { one = p .0; nobody = c .if1 .taken }))
 
-add-q : tie.Need-add-q Inv-loop μ-loop
-add-q c = omega arith
+add-p : tie.Need-add-p Inv-loop μ-loop
+add-p c = omega (arith, few (c .before .before .before))
 
 loop-less : tie.Need-loop-less Inv-loop μ-loop
 loop-less c = omega arith
 
 loop-again : tie.Need-loop-again Inv-loop μ-loop
-loop-again c =
-    let c-loop = c .before .before .before .loop in
-    let c-loop-test = c .before .before .loop-test in
-    none-more (c-loop .inv) (c-loop-test .taken) (c .if1 .left)
+loop-again c = let p = c .before .before .before .loop .inv in (omega arith, none-more (p .1) (omega arith) (λ d. c .if1 .left (d .nobody)))
+
+cast-t11 : tie.Need-cast-t11 Inv-loop μ-loop
+cast-t11 c = omega (arith, few (c .before), c .before .loop .inv .1 .within)
 
 returns-2 : tie.Need-returns-2 Inv-loop μ-loop
-returns-2 c =
-    let c-loop = c .before .loop in
-    first-none (c-loop .inv) (c .loop-test .left)
+returns-2 c = let p = c .before .loop .inv in (p .0, none-found (p .1) (omega arith))
 
 pub first-free-spec : {M : Type 1} → statement M
 first-free-spec =
@@ -49,11 +56,14 @@ first-free-spec =
     (tie.spec
     Inv-loop
     μ-loop
+    usize-from-u8-requires
     loop-holds
     mul-if1
     element-copy-out-if1
+    cast-t10
     returns
-    add-q
+    add-p
     loop-less
     loop-again
+    cast-t11
     returns-2)

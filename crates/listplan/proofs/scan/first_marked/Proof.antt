@@ -1,18 +1,18 @@
 -- `first_marked`: the first place of the order that is marked. Assumes nothing.
 use Prim.Native.Nat.{_-_}
 use native.Mathlib.Omega.{arith}
-use Rattle.listplan.proofs.Scanned.{Passed, passed-low, passed-more, passed-group, first-marked-here, first-marked-none}
+use Rattle.listplan.proofs.Scans.{Unmarked, unmarked-below, unmarked-more, unmarked-group, marked-here, none-marked}
 use Rattle.listplan.proofs.scan.first_marked.Statement.{statement}
 use Rattle.listplan.proofs.scan.first_marked.Tie as tie
 
 abbrev Inv-loop : tie.InvT-loop
-Inv-loop ready groups low n x₀ x = Passed ready x
+Inv-loop ready groups low n x₀ x = Unmarked ready x
 
 abbrev μ-loop : tie.MeasureT-loop
 μ-loop ready groups low n x₀ x = n - x
 
 loop-holds : tie.Need-loop-holds Inv-loop μ-loop
-loop-holds c = passed-low (c .pre .3)
+loop-holds c = unmarked-below (c .pre .3)
 
 element-copy-out-if1 : tie.Need-element-copy-out-if1 Inv-loop μ-loop
 element-copy-out-if1 c =
@@ -40,7 +40,7 @@ loop-again : tie.Need-loop-again Inv-loop μ-loop
 loop-again c =
     let c-pre = c .before .before .before .before .pre in
     let c-loop = c .before .before .before .loop in
-    passed-group (c-pre .2) (c-loop .inv) (c .if1 .taken)
+    unmarked-group (c-pre .2) (c-loop .inv) (c .if1 .taken)
 
 element-copy-out-if2 : tie.Need-element-copy-out-if2 Inv-loop μ-loop
 element-copy-out-if2 c =
@@ -53,7 +53,7 @@ returns c =
     let c-pre = c .before .before .before .before .before .before .pre in
     let c-loop-test = c .before .before .before .before .loop-test in
     let c-loop = c .before .before .before .before .before .loop in
-    first-marked-here (c-pre .0) (c-loop-test .taken) (c-loop .inv) (c .if2 .taken)
+    marked-here (c-pre .0) (c-loop-test .taken) (c-loop .inv) (c .if2 .taken)
 
 add-x-2 : tie.Need-add-x-2 Inv-loop μ-loop
 add-x-2 c = omega arith
@@ -64,13 +64,13 @@ loop-less-2 c = omega arith
 loop-again-2 : tie.Need-loop-again-2 Inv-loop μ-loop
 loop-again-2 c =
     let c-loop = c .before .before .before .before .before .loop in
-    passed-more (c-loop .inv) (c .if2 .left)
+    unmarked-more (c-loop .inv) (c .if2 .left)
 
 returns-2 : tie.Need-returns-2 Inv-loop μ-loop
 returns-2 c =
     let c-pre = c .before .before .pre in
     let c-loop = c .before .loop in
-    first-marked-none (c-pre .0) (c .loop-test .left) (c-loop .inv)
+    none-marked (c-pre .0) (c .loop-test .left) (c-loop .inv)
 
 pub first-marked-spec : {M : Type 1} → statement M
 first-marked-spec =

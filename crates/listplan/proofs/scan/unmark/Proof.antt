@@ -2,12 +2,12 @@
 use mathlib.Core.Path.{refl}
 use Prim.Native.Nat.{_-_}
 use native.Mathlib.Omega.{arith}
-use Rattle.listplan.proofs.Scanned.{Unmarking, unmarking-none, unmarking-more, unmarked-more, unmarked-last}
+use Rattle.listplan.proofs.Scans.{NoOther, no-other, no-other-more, grouped-still, grouped-last}
 use Rattle.listplan.proofs.scan.unmark.Statement.{statement}
 use Rattle.listplan.proofs.scan.unmark.Tie as tie
 
 abbrev Inv-loop : tie.InvT-loop
-Inv-loop ready groups x end y₀ y = Unmarking ready x y
+Inv-loop ready groups x end y₀ y = NoOther ready x y
 
 abbrev μ-loop : tie.MeasureT-loop
 μ-loop ready groups x end y₀ y = end - y
@@ -25,7 +25,7 @@ add-y : tie.Need-add-y Inv-loop μ-loop
 add-y c = omega arith
 
 loop-holds : tie.Need-loop-holds Inv-loop μ-loop
-loop-holds c = unmarking-none _ _
+loop-holds c = no-other _ _
 
 element-copy-out-if1 : tie.Need-element-copy-out-if1 Inv-loop μ-loop
 element-copy-out-if1 c =
@@ -35,7 +35,7 @@ element-copy-out-if1 c =
 returns : tie.Need-returns Inv-loop μ-loop
 returns c =
     let c-pre = c .before .before .before .before .pre in
-    (refl, unmarked-more _ _ _ (c-pre .0) (c-pre .1) (c-pre .2))
+    (refl, grouped-still (c-pre .0) (c-pre .1) (c-pre .2))
 
 add-y-2 : tie.Need-add-y-2 Inv-loop μ-loop
 add-y-2 c =
@@ -50,7 +50,7 @@ loop-again : tie.Need-loop-again Inv-loop μ-loop
 loop-again c =
     let c-loop = c .before .before .before .loop in
     let c-loop-test = c .before .before .loop-test in
-    unmarking-more (c-loop .inv) (c-loop-test .taken) (c .if1 .left)
+    no-other-more (c-loop .inv) (c-loop-test .taken) (c .if1 .left)
 
 element-write-groups : tie.Need-element-write-groups Inv-loop μ-loop
 element-write-groups c =
@@ -61,7 +61,7 @@ returns-2 : tie.Need-returns-2 Inv-loop μ-loop
 returns-2 c =
     let c-pre = c .before .before .pre in
     let c-loop = c .before .loop in
-    (refl, unmarked-last _ _ _ (c-pre .0) (c-pre .1) (c-pre .2) _ (c-pre .3) (c-loop .inv) (c .loop-test .left))
+    (refl, grouped-last (c-pre .0) (c-pre .1) (c-pre .2) (c-pre .3) (c-loop .inv) (c .loop-test .left))
 
 pub unmark-spec : {M : Type 1} → statement M
 unmark-spec =

@@ -1,7 +1,0 @@
--- What a flag says.
-use mathlib.Core.Bool.{Bool, true, false}
-
--- whether A holds
-abbrev pub Says : Type 0 → Bool → Type 0
-Says A true = A
-Says A false = ¬ A
