@@ -41,7 +41,7 @@ module _ (times : List ℕ) (arrows : List (List ℕ)) (M : ℕ) (order : List �
         record {
           plan = rw start (h .plan);
           past = rw (e, m) (drop-at (take n entries) (drop n before) n (length-take-le n entries l));
-          ends = rw start (h .ends);
+          checked = rw start (h .checked);
         },
       )
   listed before after entries n (Refused refusal) l e (a, z) = (a, rw (e, z) refl)

@@ -54,9 +54,9 @@ use Rattle.terms.proofs.PlanEnd.Laws as E′
 use Rattle.plans.proofs.fit as fit
 use Rattle.plans.proofs.fit.Symbol as fit-def
 use Rattle.plans.proofs.fit.Met as fit-thm
-use Rattle.plans.proofs.blank as blank
-use Rattle.plans.proofs.blank.Symbol as blank-def
-use Rattle.plans.proofs.blank.Met as blank-thm
+use Rattle.forms.proofs.blank as blank
+use Rattle.forms.proofs.blank.Symbol as blank-def
+use Rattle.forms.proofs.blank.Met as blank-thm
 use Rattle.plans.proofs.copy_in as copy-in
 use Rattle.plans.proofs.copy_in.Symbol as copy-in-def
 use Rattle.plans.proofs.copy_in.Met as copy-in-thm
@@ -251,6 +251,6 @@ check-plan-spec 𝓤 H 𝓜 𝓖 𝓡 =
     (tables 𝓤 H 𝓜 𝓡 code.env .C) (tables 𝓤 H 𝓜 𝓡 code.env .Λ) #f code.function (code.unfolded 𝓤 H 𝓜 𝓡)
     (check-plan-meets 𝓤 H (𝓖 .A) (givenOf 𝓤 H 𝓜 𝓖) (𝓜 .mem) (𝓡 .run) (tablesOf 𝓤 H 𝓜 (tables 𝓤 H 𝓜 𝓡 code.env))
     (cited 𝓤 H (Fit 𝓤 H (𝓖 .A) (𝓜 .mem) (𝓡 .run)) 𝓜 𝓡 code.env fit-def.name fit-def.routine code.calls-plans·fit (fit-thm.met 𝓤 H 𝓜 𝓖 𝓡))
-    (cited 𝓤 H (Blank 𝓤 H (𝓖 .A) (𝓜 .mem) (𝓡 .run)) 𝓜 𝓡 code.env blank-def.name blank-def.routine code.calls-plans·blank (blank-thm.met 𝓤 H 𝓜 𝓖 𝓡))
+    (cited 𝓤 H (Blank 𝓤 H (𝓖 .A) (𝓜 .mem) (𝓡 .run)) 𝓜 𝓡 code.env blank-def.name blank-def.routine code.calls-forms·blank (blank-thm.met 𝓤 H 𝓜 𝓖 𝓡))
     (cited 𝓤 H (CopyIn 𝓤 H (𝓖 .A) (𝓜 .mem) (𝓡 .run)) 𝓜 𝓡 code.env copy-in-def.name copy-in-def.routine code.calls-plans·copy-in (copy-in-thm.met 𝓤 H 𝓜 𝓖 𝓡))
     (cited 𝓤 H (Check 𝓤 H (𝓖 .A) (𝓜 .mem) (𝓡 .run)) 𝓜 𝓡 code.env check-def.name check-def.routine code.calls-plancheck·check-table (check-thm.met 𝓤 H 𝓜 𝓖 𝓡)))
