@@ -1,9 +1,9 @@
-// Runs the examples of document 01. What each must say stands in the file `stdout`, from the document.
+// Runs the worked examples of docs/PLANNER.md. What each must say stands in the file `stdout`.
 use graph::longest_path;
 use graph::total_work;
 use libc::STDOUT_FILENO;
-use plans::check_row;
-use plans::list_row;
+use listplan::draft_plan;
+use plancheck::check_table;
 use stg::read_stg;
 use terms::Amount;
 use terms::Answer;
@@ -99,8 +99,8 @@ fn judged(times: &[u16], arrows: &[[u16; 2]], m: u32, d: u32) {
 
 // The end of the list plan, for a row of so many entries.
 fn listed(times: &[u16], arrows: &[[u16; 2]], m: u32, order: &[u16], room: usize) {
-    let listed = list_row(times, arrows, m, order, [at(0, 0); 256], room);
-    let reply = listed.reply;
+    let draft = draft_plan(times, arrows, m, order, room);
+    let reply = draft.reply;
     print_end(reply);
 }
 
@@ -108,11 +108,11 @@ fn listed(times: &[u16], arrows: &[[u16; 2]], m: u32, order: &[u16], room: usize
 fn checked(times: &[u16], arrows: &[[u16; 2]], m: u32, first: Entry, second: Entry) {
     let mut table = [first; 256];
     table[1] = second;
-    print_end(check_row(times, arrows, m, table, 2));
+    print_end(check_table(times, arrows, m, table, 2));
 }
 
 fn checked_alone(times: &[u16], arrows: &[[u16; 2]], m: u32, entry: Entry) {
-    print_end(check_row(times, arrows, m, [entry; 256], 1));
+    print_end(check_table(times, arrows, m, [entry; 256], 1));
 }
 
 // Example 2: every time of G shorter by 1.

@@ -1,14 +1,12 @@
 // Reads an STG text from standard input, and prints C, P, S and the end of the list plan in the order 1..n for 1 to 4 processors.
-use lent::in_turn;
+use inputs::order_by_number;
 use libc::STDIN_FILENO;
 use libc::STDOUT_FILENO;
-use plans::list_row;
+use listplan::draft_plan;
 use stg::read_stg;
 use terms::Counts;
-use terms::Entry;
 use terms::Figures;
 use terms::PlanEnd;
-use terms::Processor;
 use terms::Refusal;
 use verdict::judge;
 
@@ -34,12 +32,8 @@ fn print_line(m: u32, figures: Figures, end: u32) {
 // One line of the table. An accepted graph is refused by neither call.
 fn report(times: &[u16], arrows: &[[u16; 2]], m: u32, order: &[u16]) {
     let answer = judge(times, arrows, m, 1);
-    let row = [Entry {
-        processor: Processor(0),
-        start: 0,
-    }; 256];
-    let listed = list_row(times, arrows, m, order, row, times.len());
-    let reply = listed.reply;
+    let draft = draft_plan(times, arrows, m, order, times.len());
+    let reply = draft.reply;
     match reply {
         PlanEnd::Refused(refusal) => print_refusal(refusal),
         PlanEnd::Ends(end) => print_line(m, answer.figures, end),
@@ -47,7 +41,7 @@ fn report(times: &[u16], arrows: &[[u16; 2]], m: u32, order: &[u16]) {
 }
 
 fn table(times: &[u16], arrows: &[[u16; 2]]) {
-    let all = in_turn();
+    let all = order_by_number();
     let n = times.len();
     if 256 < n {
         return;

@@ -1,13 +1,12 @@
 // What the planner says of a text, held to the output that an independent implementation gave for it.
-use lent::in_turn;
-use plans::check_row;
-use plans::list_row;
+use inputs::order_by_number;
+use listplan::draft_plan;
+use plancheck::check_table;
 use stg::read_stg;
 use terms::Counts;
-use terms::Entry;
 use terms::Outcome;
 use terms::PlanEnd;
-use terms::Processor;
+use terms::Refusal;
 use terms::Verdict;
 use verdict::judge;
 
@@ -86,20 +85,16 @@ fn figures_agree(times: &[u16], arrows: &[[u16; 2]], line: Line) -> bool {
 // The list plan's end, which the plan check gives too.
 fn plan_agrees(times: &[u16], arrows: &[[u16; 2]], line: Line, order: &[u16]) -> bool {
     let n = times.len();
-    let row = [Entry {
-        processor: Processor(0),
-        start: 0,
-    }; 256];
-    let listed = list_row(times, arrows, line.m, order, row, n);
-    let reply = listed.reply;
-    let entries = listed.entries;
+    let draft = draft_plan(times, arrows, line.m, order, n);
+    let reply = draft.reply;
+    let entries = draft.entries;
     match reply {
         PlanEnd::Refused(_) => false,
         PlanEnd::Ends(end) => {
             if end != line.end {
                 return false;
             }
-            match check_row(times, arrows, line.m, entries, n) {
+            match check_table(times, arrows, line.m, entries, n) {
                 PlanEnd::Refused(_) => false,
                 PlanEnd::Ends(checked) => checked == end,
             }
@@ -109,7 +104,7 @@ fn plan_agrees(times: &[u16], arrows: &[[u16; 2]], line: Line, order: &[u16]) ->
 
 // The lines for 1 to 4 processors, behind the header.
 fn table_agrees(times: &[u16], arrows: &[[u16; 2]], output: &[u8]) -> bool {
-    let all = in_turn();
+    let all = order_by_number();
     let n = times.len();
     if 256 < n {
         return false;
@@ -135,7 +130,7 @@ fn table_agrees(times: &[u16], arrows: &[[u16; 2]], output: &[u8]) -> bool {
 }
 
 // "refused," and the number.
-fn refusal_agrees(number: u8, output: &[u8]) -> bool {
+fn refusal_agrees(refusal: Refusal, output: &[u8]) -> bool {
     if output.len() < 9 {
         return false;
     }
@@ -143,7 +138,7 @@ fn refusal_agrees(number: u8, output: &[u8]) -> bool {
         return false;
     }
     let stored = number_at(output, 8);
-    stored.value == number as u32
+    stored.value == refusal.number as u32
 }
 
 // Whether the planner says of the text what the stored output says.
@@ -151,7 +146,7 @@ pub fn agrees(text: &[u8], output: &[u8]) -> bool {
     let mut times = [0u16; 256];
     let mut arrows = [[0u16; 2]; 2048];
     match read_stg(text, &mut times, &mut arrows) {
-        Counts::Refused(refusal) => refusal_agrees(refusal.number, output),
+        Counts::Refused(refusal) => refusal_agrees(refusal, output),
         Counts::Read(size) => {
             let subtasks = size.subtasks;
             let count = size.arrows;

@@ -13,8 +13,8 @@ Inv-loop times arrows n order m₀ m = m ≤ 5
 abbrev μ-loop : tie.MeasureT-loop
 μ-loop times arrows n order m₀ m = 5 - m
 
-in-turn-requires : tie.Need-in-turn-requires Inv-loop μ-loop
-in-turn-requires c κs = search needs
+order-by-number-requires : tie.Need-order-by-number-requires Inv-loop μ-loop
+order-by-number-requires c κs = search needs
 
 returns : tie.Need-returns Inv-loop μ-loop
 returns c = search needs
@@ -23,7 +23,7 @@ array-share-prefix-all : tie.Need-array-share-prefix-all Inv-loop μ-loop
 array-share-prefix-all c = search needs
 
 slice-aggregate-order : tie.Need-slice-aggregate-order Inv-loop μ-loop
-slice-aggregate-order c = sym (length-take-le _ _ (omega (arith, c .before .before .in-turn .ensures .0)))
+slice-aggregate-order c = sym (length-take-le _ _ (omega (arith, c .before .before .order-by-number .ensures .0)))
 
 slice-aggregate-write-all : tie.Need-slice-aggregate-write-all Inv-loop μ-loop
 slice-aggregate-write-all c = search needs
@@ -55,7 +55,7 @@ table-spec =
     (tie.spec
     Inv-loop
     μ-loop
-    in-turn-requires
+    order-by-number-requires
     returns
     array-share-prefix-all
     slice-aggregate-order
