@@ -94,7 +94,7 @@ module _ {times : List ℕ} {arrows : List (List ℕ)} {row : List ℕ} where
   module _ {finish : List ℕ} {most j : ℕ} (w : Weighed times arrows row finish most j) where
     -- ---- the next entry, v
     module _ (l : j < length times) {v : ℕ} (ev : v ≡ getD row j 0) where
-      pub entry-is : Among 1 (length times) v
+      entry-is : Among 1 (length times) v
       entry-is = rw ev (w .order .inside j l)
 
       pub entry-small : v < 257

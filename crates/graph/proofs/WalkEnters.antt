@@ -24,7 +24,7 @@ module _ {n : ℕ} {arrows : List (List ℕ)} {first next row marks stack : List
     inside : p < length marks
     inside = omega (arith, t .high, s .tidy .subtasks, s .long-marks)
 
-    pub come-to : (d root′ : ℕ) (stack′ : List ℕ) → length stack′ ≡ 256 → ((i : ℕ) → i < d → Climbs n arrows (set marks p (d + 2)) i (getD stack′ i 0))
+    come-to : (d root′ : ℕ) (stack′ : List ℕ) → length stack′ ≡ 256 → ((i : ℕ) → i < d → Climbs n arrows (set marks p (d + 2)) i (getD stack′ i 0))
         → ((v : ℕ) → Among 1 n v → getD marks v 0 < d + 2) → d + tally new marks n ≤ n → root ≤ root′ → Tried n arrows (set marks p (d + 2)) root′
         → State n arrows first next row (set marks p (d + 2)) stack′ d m root′ p (getD first p 0)
         × (left n arrows (set marks p (d + 2)) root′ (getD first p 0) < left n arrows marks root c)

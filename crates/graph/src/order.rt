@@ -12,8 +12,8 @@ ghost use Rattle.graph.specs.Chains.{Chains, Tidy};
 ghost use Rattle.graph.specs.Ordered.{Orders};
 
 // Whether the subtasks can stand in an order, predecessors first, which is left in `order`; else the arrows close a cycle. It goes back
-// along the arrows from each subtask in turn. At u, c is the position of the arrow that is looked at; the arrows on the way to u stand on the stack. A mark is 1
-// where the subtask was not come to, its depth on the way and 2 where it is on the way, and 0 once it is placed.
+// along the arrows from each subtask in turn. At u, c is the position of the arrow that is looked at; the arrows on the way to u stand on
+// the stack. A mark is 1 where the subtask was not come to, its depth on the way and 2 where it is on the way, and 0 once it is placed.
 pub fn order_subtasks(
     n: usize,
     arrows: &[[u16; 2]],

@@ -8,7 +8,7 @@ use Rattle.verdict.proofs.verdict_of.Statement.{statement}
 use Rattle.verdict.proofs.verdict_of.Tie as tie
 
 sub-s : tie.Need-sub-s
-sub-s c = c .pre .processors .low
+sub-s c = omega (arith, c .pre .processors .low)
 
 mul-s : tie.Need-mul-s
 mul-s c = omega (arith, s-small (c .pre))
