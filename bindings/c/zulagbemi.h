@@ -11,9 +11,11 @@
  * other field of the reply is 0.
  *
  * Threads. No call keeps anything between calls, so any number of threads may call at once on rows that none of them
- * writes meanwhile. Stack. No call allocates memory or calls itself, and each needs less than 16 KiB of stack.
+ * writes meanwhile.
  *
- * For x86-64. The archive asks the C library for memcpy and memset alone. */
+ * Stack. Each call needs less than 16 KiB of stack; none allocates memory.
+ *
+ * The archive is for x86-64, position-independent, and takes memcpy and memset from the C library, nothing else. */
 #ifndef ZULAGBEMI_H
 #define ZULAGBEMI_H
 
@@ -39,7 +41,7 @@ extern "C" {
 #define ZUL_MAX_TEXT 60000       /* bytes of an STG text */
 
 /* The numbers of refusal ("Numbers of refusal": who asks which, in which order). More may be added.
- * begin: bindings/refusals.sh writes from here from refusals.txt */
+ * begin: bindings/refusals.sh, from refusals.txt */
 typedef enum {
     ZUL_OK                        =  0, /* accepted */
     ZUL_REFUSED_SUBTASK_COUNT     =  1, /* the count of subtasks is not 1 to 256 */

@@ -2,6 +2,7 @@
 //! `bindings/c/install.sh` installs it; without it `bindings/archive.sh` proves and builds the planner with `rt`, the
 //! command of the Rattle toolchain.
 
+use std::ffi::OsStr;
 use std::path::{Path, PathBuf};
 use std::process::Command;
 use std::{env, fs};
@@ -19,11 +20,23 @@ fn prove(bindings: &Path) -> PathBuf {
     folder
 }
 
+/// The folder that ZULAGBEMI_LIB_DIR names. Where a pkg-config file was installed with the archive, it is of this crate's
+/// version.
+fn named(folder: &OsStr) -> PathBuf {
+    let found = fs::canonicalize(folder).unwrap_or_else(|error| panic!("ZULAGBEMI_LIB_DIR, {folder:?}: {error}"));
+    let installed = found.join("pkgconfig/zulagbemi.pc");
+    if let Ok(said) = fs::read_to_string(&installed) {
+        let version = concat!("Version: ", env!("CARGO_PKG_VERSION"));
+        assert!(said.lines().any(|line| line == version), "{} does not say {version:?}", installed.display());
+    }
+    found
+}
+
 fn main() {
     println!("cargo::rerun-if-changed=build.rs");
     println!("cargo::rerun-if-env-changed=ZULAGBEMI_LIB_DIR");
-    let folder = match env::var_os("ZULAGBEMI_LIB_DIR") {
-        Some(named) => fs::canonicalize(&named).unwrap_or_else(|error| panic!("ZULAGBEMI_LIB_DIR, {named:?}: {error}")),
+    let folder = match env::var_os("ZULAGBEMI_LIB_DIR").filter(|folder| !folder.is_empty()) {
+        Some(folder) => named(&folder),
         None => prove(&Path::new(env!("CARGO_MANIFEST_DIR")).join("..")),
     };
     let archive = folder.join("libzulagbemi.a");

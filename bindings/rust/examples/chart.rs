@@ -4,7 +4,6 @@
 
 use std::error::Error;
 use std::io::Read;
-use std::process::ExitCode;
 use zulagbemi::{Arrow, Entry, Graph, MAX_ARROWS, MAX_SUBTASKS};
 
 /// Columns from the plan's begin to its end.
@@ -44,12 +43,9 @@ fn run() -> Result<(), Box<dyn Error>> {
     Ok(())
 }
 
-fn main() -> ExitCode {
-    run().map_or_else(
-        |error| {
-            eprintln!("chart: {error}");
-            ExitCode::FAILURE
-        },
-        |()| ExitCode::SUCCESS,
-    )
+fn main() {
+    if let Err(error) = run() {
+        eprintln!("chart: {error}");
+        std::process::exit(1);
+    }
 }

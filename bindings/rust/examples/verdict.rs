@@ -4,7 +4,6 @@
 
 use std::error::Error;
 use std::io::Read;
-use std::process::ExitCode;
 use zulagbemi::{Arrow, Graph, Verdict, MAX_ARROWS, MAX_SUBTASKS};
 
 fn run() -> Result<(), Box<dyn Error>> {
@@ -27,12 +26,9 @@ fn run() -> Result<(), Box<dyn Error>> {
     Ok(())
 }
 
-fn main() -> ExitCode {
-    run().map_or_else(
-        |error| {
-            eprintln!("verdict: {error}");
-            ExitCode::FAILURE
-        },
-        |()| ExitCode::SUCCESS,
-    )
+fn main() {
+    if let Err(error) = run() {
+        eprintln!("verdict: {error}");
+        std::process::exit(1);
+    }
 }
