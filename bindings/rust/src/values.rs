@@ -45,6 +45,7 @@ pub enum Verdict {
 
 /// The answer to a deadline question.
 #[derive(Clone, Copy, PartialEq, Debug)]
+#[non_exhaustive]
 pub struct Answer {
     /// C: the sum of all times.
     pub total_work: u32,

@@ -4,7 +4,7 @@ use crate::common::{ran, root};
 use std::path::{Path, PathBuf};
 use std::process::{Command, Stdio};
 use std::{env, fs};
-use zulagbemi::{Graph, Reason};
+use zulagbemi::Reason;
 
 /// Compilers and their words for the language; those that are not on this machine are passed over.
 const LANGUAGES: [(&str, &[&str]); 6] = [
@@ -94,5 +94,4 @@ fn version() {
     let header = fs::read_to_string(prefix.join("include/zulagbemi.h")).unwrap();
     let numbers = ["MAJOR", "MINOR", "PATCH"].map(|part| crate::once::defined(&header, &format!("VERSION_{part}")));
     assert_eq!(numbers.map(|n| n.to_string()).join("."), env!("CARGO_PKG_VERSION"));
-    assert!(Graph::new(&[1], &[]).total_work().is_ok());
 }

@@ -66,7 +66,7 @@ fn graphs_and_plans() {
         }
     }
     println!("{compared} comparisons; plan checks by number: {counts:?}");
-    for k in [0, 1, 2, 4, 5, 6, 7, 8, 12, 13, 14, 15, 16, 17] {
+    for k in [0, 1, 2, 3, 4, 5, 6, 7, 8, 12, 13, 14, 15, 16, 17] {
         assert!(counts[k] > 0, "no plan check answered {k}");
     }
 }
@@ -123,7 +123,7 @@ fn texts() {
         counts[same_reading(&text, room) as usize] += 1;
     }
     println!("texts by number: {counts:?}");
-    for k in [0, 2, 4, 5, 6, 7, 11, 20, 21, 22, 23, 24] {
+    for k in [0, 2, 3, 4, 5, 6, 7, 11, 20, 21, 22, 23, 24] {
         assert!(counts[k] > 0, "no text was answered {k}");
     }
 }

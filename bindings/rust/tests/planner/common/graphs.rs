@@ -4,16 +4,18 @@ use super::random::Random;
 
 /// A graph, as the model's two rows.
 pub fn graph(random: &mut Random) -> (Vec<u16>, Vec<[u16; 2]>) {
+    let crowded = random.once_in(1000);
     let n = match random.below(40) {
+        _ if crowded => random.among(66, 80),
         0 => random.pick(&[0, 255, 256, 257, 300]),
         1 => random.among(13, 60),
         _ => random.among(1, 12),
     } as usize;
     let longest = random.pick(&[1, 2, 5, 9, 100, 65_535]);
     let mut times: Vec<u16> = (0..n).map(|_| random.among(1, longest) as u16).collect();
-    let mut arrows = if n >= 2 { forward_arrows(random, n) } else { Vec::new() };
+    let mut arrows = if crowded { many_arrows(random, n) } else { some_arrows(random, n) };
     // subtasks need not be numbered in order
-    if n >= 2 && random.once_in(2) {
+    if random.once_in(2) {
         let mut name: Vec<u16> = (1..=n as u16).collect();
         shuffle(random, &mut name);
         for a in &mut arrows {
@@ -26,18 +28,24 @@ pub fn graph(random: &mut Random) -> (Vec<u16>, Vec<[u16; 2]>) {
     (times, arrows)
 }
 
-/// Arrows from lower numbers to higher ones; among very many some stand twice.
-fn forward_arrows(random: &mut Random, n: usize) -> Vec<[u16; 2]> {
+/// Up to 3n arrows from lower numbers to higher ones, none twice.
+fn some_arrows(random: &mut Random, n: usize) -> Vec<[u16; 2]> {
     let mut arrows = Vec::new();
-    let limits = [2047, 2048, 2049, 2060];
-    let most = if random.once_in(300) { random.pick(&limits) } else { random.below(3 * n as u64) };
-    for _ in 0..most {
-        let (a, b) = (random.among(1, n as u64), random.among(1, n as u64));
+    for _ in 0..random.below(3 * n.max(1) as u64) {
+        let (a, b) = (random.among(1, n.max(1) as u64), random.among(1, n.max(1) as u64));
         let arrow = [a.min(b) as u16, a.max(b) as u16];
-        if arrow[0] != arrow[1] && (!arrows.contains(&arrow) || (most > 2000 && !random.once_in(3))) {
+        if arrow[0] != arrow[1] && !arrows.contains(&arrow) {
             arrows.push(arrow);
         }
     }
+    arrows
+}
+
+/// As many arrows from lower numbers to higher ones as are allowed, a few less or a few more, none twice.
+fn many_arrows(random: &mut Random, n: usize) -> Vec<[u16; 2]> {
+    let mut arrows: Vec<[u16; 2]> = (2..=n as u16).flat_map(|b| (1..b).map(move |a| [a, b])).collect();
+    shuffle(random, &mut arrows);
+    arrows.truncate(random.pick(&[2047, 2048, 2049, 2060]));
     arrows
 }
 

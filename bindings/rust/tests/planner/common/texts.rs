@@ -5,6 +5,7 @@ use super::random::Random;
 /// Such a text.
 pub fn text(random: &mut Random, times: &[u16], arrows: &[[u16; 2]]) -> Vec<u8> {
     let end: &[u8] = if random.once_in(3) { b"\r\n" } else { b"\n" };
+    let most = if random.once_in(6) { 9 } else { 8 };
     let mut lines = lines(random, times, arrows);
     if random.once_in(6) {
         damage_line(random, &mut lines);
@@ -12,7 +13,7 @@ pub fn text(random: &mut Random, times: &[u16], arrows: &[[u16; 2]]) -> Vec<u8> 
     let mut text = Vec::new();
     let count = lines.len();
     for (k, line) in lines.iter().enumerate() {
-        spell(random, line, &mut text);
+        spell(random, line, most, &mut text);
         if k + 1 < count || !random.once_in(5) {
             text.extend_from_slice(end);
         }
@@ -73,8 +74,8 @@ fn damage_line(random: &mut Random, lines: &mut Vec<Vec<u64>>) {
     }
 }
 
-/// A line's fields, with blanks and zeros before some of them.
-fn spell(random: &mut Random, line: &[u64], text: &mut Vec<u8>) {
+/// A line's fields, with blanks and zeros before some of them, up to so many digits.
+fn spell(random: &mut Random, line: &[u64], most: usize, text: &mut Vec<u8>) {
     if random.once_in(9) {
         text.extend_from_slice(random.pick(&[&b" "[..], b"\t", b"  "]));
     }
@@ -83,10 +84,8 @@ fn spell(random: &mut Random, line: &[u64], text: &mut Vec<u8>) {
             let gap = if random.once_in(9) { random.pick(&[&b"\t"[..], b"  ", b" \t "]) } else { b" " };
             text.extend_from_slice(gap);
         }
-        if random.once_in(20) {
-            text.extend_from_slice(random.pick(&[&b"0"[..], b"00", b"0000000"]));
-        }
-        text.extend_from_slice(v.to_string().as_bytes());
+        let digits = if random.once_in(20) { random.pick(&[2, 3, most]) } else { 1 };
+        text.extend_from_slice(format!("{v:0digits$}").as_bytes());
     }
     if random.once_in(9) {
         text.push(b' ');
