@@ -24,6 +24,7 @@ fn prove(bindings: &Path) -> PathBuf {
 /// version.
 fn named(folder: &OsStr) -> PathBuf {
     let found = fs::canonicalize(folder).unwrap_or_else(|error| panic!("ZULAGBEMI_LIB_DIR, {folder:?}: {error}"));
+    println!("cargo::rerun-if-changed={}", found.join("libzulagbemi.a").display());
     let installed = found.join("pkgconfig/zulagbemi.pc");
     if let Ok(said) = fs::read_to_string(&installed) {
         let version = concat!("Version: ", env!("CARGO_PKG_VERSION"));
@@ -41,7 +42,6 @@ fn main() {
     };
     let archive = folder.join("libzulagbemi.a");
     assert!(archive.is_file(), "{} is not there", archive.display());
-    println!("cargo::rerun-if-changed={}", archive.display());
     println!("cargo::rustc-link-search=native={}", folder.display());
     println!("cargo::rustc-link-lib=static=zulagbemi");
     // for this crate's own tests, and for the build scripts of crates that use this one
