@@ -56,6 +56,9 @@ docs_part() {
 
 # Puts a part between the two lines of a file that name this script.
 between() { # FILE PART
+  for mark in begin end; do
+    grep -q "$mark: bindings/refusals.sh" "$1" || { echo "bindings/refusals.sh: ${1#../} has no line '$mark: bindings/refusals.sh'" >&2; exit 1; }
+  done
   awk -v part="$2" '
     /begin: bindings\/refusals.sh/ { print; while ((getline line < part) > 0) print line; inside = 1 }
     /end: bindings\/refusals.sh/ { inside = 0 }

@@ -11,6 +11,10 @@ use std::{env, fs};
 fn prove(bindings: &Path) -> PathBuf {
     let folder = PathBuf::from(env::var_os("OUT_DIR").expect("cargo names OUT_DIR"));
     let script = bindings.join("archive.sh");
+    assert!(
+        script.is_file(),
+        "outside its repository this crate needs ZULAGBEMI_LIB_DIR to name a folder with libzulagbemi.a"
+    );
     let ran = Command::new("bash").arg(&script).arg(&folder).output();
     let done = ran.unwrap_or_else(|error| panic!("bash {}: {error}", script.display()));
     assert!(done.status.success(), "{}:\n{}", script.display(), String::from_utf8_lossy(&done.stderr));

@@ -29,6 +29,7 @@
 
 mod graph;
 mod linked;
+#[rustfmt::skip] // bindings/refusals.sh lays it out
 mod reason;
 mod refusal;
 mod values;
