@@ -15,7 +15,7 @@
  *
  * Stack. Each call needs less than 16 KiB of stack; none allocates memory.
  *
- * The archive is for x86-64, position-independent, and takes memcpy and memset from the C library, nothing else. */
+ * The archive is for x86-64 and position-independent, and needs no library but for memcpy and its like. */
 #ifndef ZULAGBEMI_H
 #define ZULAGBEMI_H
 

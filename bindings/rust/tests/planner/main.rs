@@ -14,4 +14,4 @@ mod once;
 mod outside;
 #[path = "../../benches/speed/painted.rs"]
 mod painted;
-mod stack;
+mod promises;
