@@ -1,33 +1,42 @@
-/* Reads an STG text from standard input, asks for a verdict on 3 processors against a deadline of 20 microseconds,
- * and prints the list plan in the order 1..n. At the repository's root:
- *     rt staticlib api
- *     cc -I bindings/c bindings/c/example.c target/staticlib/libapi.a -o target/example
- *     target/example < crates/vectors/data/g.stg */
+/* Reads an STG text from standard input, asks for a verdict on 3 processors against a deadline of 20 microseconds, and
+ * prints the list plan in the order 1..n. With the planner installed under PREFIX (bindings/c/install.sh PREFIX):
+ *     export PKG_CONFIG_PATH=PREFIX/lib/pkgconfig
+ *     cc example.c $(pkg-config --cflags --libs zulagbemi) -o example */
 #include <stdio.h>
-#include "zulagbemi.h"
+#include <zulagbemi.h>
+
+static int refused(uint32_t number) {
+    printf("refused by %u: %s\n", (unsigned)number, zul_meaning(number));
+    return 1;
+}
 
 int main(void) {
-    static uint8_t text[60001];
-    static uint16_t times[256], arrows[2048][2], order[256];
-    static zul_entry plan[256];
-    size_t len = fread(text, 1, sizeof text, stdin);
+    static uint8_t text[ZUL_MAX_TEXT + 1]; /* one byte more than is allowed, so that a longer text is refused */
+    static uint16_t times[ZUL_MAX_SUBTASKS], order[ZUL_MAX_SUBTASKS];
+    static zul_arrow arrows[ZUL_MAX_ARROWS];
+    static zul_entry plan[ZUL_MAX_SUBTASKS];
     const uint32_t m = 3, d = 20;
 
-    zul_counts read = zul_read_stg(text, len, times, 256, arrows, 2048);
-    if (read.number != 0) {
-        printf("refused by %u\n", read.number);
-        return 1;
-    }
+    size_t len = fread(text, 1, sizeof text, stdin);
+    zul_counts read = zul_read_stg(text, len, times, ZUL_MAX_SUBTASKS, arrows, ZUL_MAX_ARROWS);
+    if (read.number != ZUL_OK) return refused(read.number);
     size_t n = read.subtasks, a = read.arrows;
+
     zul_answer answer = zul_judge(times, n, arrows, a, m, d);
-    printf("C = %u, P = %u, S = %u, load = %.3f: %s %u\n", answer.c, answer.p, answer.s, answer.load,
-           answer.fits ? "fits, spare" : "late, short", answer.margin);
+    if (answer.number != ZUL_OK) return refused(answer.number);
+    printf("C = %u, P = %u, S = %u, load = %.3f: ", (unsigned)answer.c, (unsigned)answer.p, (unsigned)answer.s, (double)answer.load);
+    printf("%s %u\n", answer.fits ? "fits, spare" : "late, short", (unsigned)answer.margin);
 
     for (size_t j = 0; j < n; j++) order[j] = (uint16_t)(j + 1);
-    zul_plan_end listed = zul_list_plan(times, n, arrows, a, m, order, n, plan, 256);
-    for (size_t j = 0; j < n; j++)
-        printf("subtask %zu: processor %u from %u to %u\n", j + 1, plan[j].processor, plan[j].start, plan[j].start + times[j]);
+    zul_plan_end listed = zul_list_plan(times, n, arrows, a, m, order, n, plan, ZUL_MAX_SUBTASKS);
+    if (listed.number != ZUL_OK) return refused(listed.number);
+    for (size_t j = 0; j < n; j++) {
+        unsigned start = (unsigned)plan[j].start;
+        printf("subtask %zu: processor %u from %u to %u\n", j + 1, (unsigned)plan[j].processor, start, start + times[j]);
+    }
+
     zul_plan_end checked = zul_check_plan(times, n, arrows, a, m, plan, n);
-    printf("the plan ends at %u, and is %s\n", listed.end, checked.number == 0 && checked.end == listed.end ? "accepted" : "refused");
+    if (checked.number != ZUL_OK) return refused(checked.number);
+    printf("the plan ends at %u, and is accepted\n", (unsigned)checked.end);
     return 0;
 }

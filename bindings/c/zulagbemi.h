@@ -1,25 +1,21 @@
 /* Zulagbemi: a proved planner for task graphs on up to 16 processors.
  *
- * A graph is a row of n times (microseconds, 1..65535; subtasks are numbered 1..n in row order) and a row of
- * arrows, each { from, to }: `to` starts when `from` has ended. n is 1..256, at most 2,048 arrows.
+ * A graph is a row of n times (microseconds; subtasks are numbered 1..n in row order) and a row of arrows: `to` starts
+ * when `from` has ended. What the planner promises stands in docs/PLANNER.md, whose sections are cited here.
  *
- * Every call takes any numbers and any text, ends, and does nothing undefined, as long as each pointer is valid for
- * as many elements as the length beside it says and rows that are written overlap nothing else; for a length of 0
- * the pointer is not read but must not be null. A call that succeeds has number 0. Otherwise number says why the
- * input was refused, the lowest that holds, and every other field of the reply is 0:
+ * Any input. Every call takes any numbers and any text, ends, and does nothing undefined, as long as each pointer is
+ * valid for as many elements as the length beside it says, and a row that is written overlaps nothing else of the call.
+ * Where the length is 0 the pointer is not used and may be null.
  *
- *    1  the count of subtasks is not 1..256            12  the plan has not exactly n entries
- *    2  some time is 0                                 13  a processor outside 1..m
- *    3  more than 2,048 arrows                         14  a start above 16,776,960
- *    4  an arrow names a subtask outside 1..n          15  a subtask starts before a predecessor ends
- *    5  an arrow from a subtask to itself              16  two subtasks on one processor share an instant
- *    6  the same arrow twice                           17  a subtask is ready and a processor free at some instant
- *    7  the arrows close a cycle                       20  the text is above 60,000 bytes
- *    8  m is not 1..16                                 21  the first line is not one number 1..256
- *    9  d is not 1..1,000,000                          22  a task line missing or misshapen, or something after the last
- *   10  the order does not hold each of 1..n once      23  line 0 or line n+1 is not a proper dummy
- *   11  the lent room is too short                     24  a time above 65,535
- */
+ * Replies. A call that succeeds has number 0 (ZUL_OK). Otherwise number says why the input was refused, and every
+ * other field of the reply is 0.
+ *
+ * Threads. No call keeps anything between calls, so any number of threads may call at once on rows that none of them
+ * writes meanwhile.
+ *
+ * Stack. Each call needs less than 16 KiB of stack; none allocates memory.
+ *
+ * The archive is for x86-64 and position-independent, and needs no library but for memcpy and its like. */
 #ifndef ZULAGBEMI_H
 #define ZULAGBEMI_H
 
@@ -30,44 +26,140 @@
 extern "C" {
 #endif
 
-typedef struct { uint32_t number, value; } zul_amount;
+#define ZUL_VERSION "0.1.0"
+#define ZUL_VERSION_MAJOR 0
+#define ZUL_VERSION_MINOR 1
+#define ZUL_VERSION_PATCH 0
 
-/* C (total work), P (longest path), S = C + (m - 1) * P, the load C / (m * d); fits 1: margin is the spare
- * m * d - S; fits 0: margin is the shortfall S - m * d. */
-typedef struct { uint32_t number, c, p, s; float load; uint32_t fits, margin; } zul_answer;
+/* The limits ("Numbers"). */
+#define ZUL_MAX_SUBTASKS 256
+#define ZUL_MAX_TIME 65535       /* microseconds; a time is at least 1 */
+#define ZUL_MAX_ARROWS 2048
+#define ZUL_MAX_PROCESSORS 16
+#define ZUL_MAX_DEADLINE 1000000 /* microseconds; a deadline is at least 1 */
+#define ZUL_MAX_START 16776960   /* microseconds; also the largest total work */
+#define ZUL_MAX_TEXT 60000       /* bytes of an STG text */
 
-/* What a plan holds for one subtask. */
+/* The numbers of refusal ("Numbers of refusal": who asks which, in which order). More may be added.
+ * begin: bindings/refusals.sh, from refusals.txt */
+typedef enum {
+    ZUL_OK                        =  0, /* accepted */
+    ZUL_REFUSED_SUBTASK_COUNT     =  1, /* the count of subtasks is not 1 to 256 */
+    ZUL_REFUSED_TIME_ZERO         =  2, /* some time is 0 */
+    ZUL_REFUSED_ARROW_COUNT       =  3, /* there are more than 2,048 arrows */
+    ZUL_REFUSED_ARROW_OUTSIDE     =  4, /* an arrow names a subtask outside 1 to n */
+    ZUL_REFUSED_ARROW_TO_ITSELF   =  5, /* an arrow leads from a subtask to itself */
+    ZUL_REFUSED_ARROW_TWICE       =  6, /* the same arrow stands twice */
+    ZUL_REFUSED_CYCLE             =  7, /* the arrows close a cycle */
+    ZUL_REFUSED_PROCESSOR_COUNT   =  8, /* M, the count of processors, is not 1 to 16 */
+    ZUL_REFUSED_DEADLINE          =  9, /* D, the deadline, is not 1 to 1,000,000 */
+    ZUL_REFUSED_ORDER             = 10, /* the order is not exactly n entries that hold each of 1 to n once */
+    ZUL_REFUSED_ROOM              = 11, /* the lent room is too short */
+    ZUL_REFUSED_PLAN_LENGTH       = 12, /* the plan has not exactly n entries */
+    ZUL_REFUSED_PROCESSOR_OUTSIDE = 13, /* the plan names a processor outside 1 to M */
+    ZUL_REFUSED_START_LARGE       = 14, /* a start is above 16,776,960 */
+    ZUL_REFUSED_START_EARLY       = 15, /* a subtask starts before a predecessor ends */
+    ZUL_REFUSED_OVERLAP           = 16, /* two subtasks on one processor share an instant */
+    ZUL_REFUSED_IDLE              = 17, /* at some whole t a subtask is ready and one of the processors 1 to M is free */
+    ZUL_REFUSED_TEXT_LENGTH       = 20, /* the text is above 60,000 bytes */
+    ZUL_REFUSED_FIRST_LINE        = 21, /* the first line is not one number 1 to 256 */
+    ZUL_REFUSED_TASK_LINE         = 22, /* a task line is missing or misshapen, or something stands after the last one */
+    ZUL_REFUSED_DUMMY_LINE        = 23, /* line 0 or line n+1 is not a proper dummy */
+    ZUL_REFUSED_TIME_LARGE        = 24  /* a time is above 65,535 */
+} zul_refusal;
+
+/* What a number means, as one line of text. It stands here and not in the archive, which holds proved code alone. */
+static inline const char *zul_meaning(uint32_t number) {
+    switch (number) {
+        case ZUL_OK: return "accepted";
+        case ZUL_REFUSED_SUBTASK_COUNT: return "the count of subtasks is not 1 to 256";
+        case ZUL_REFUSED_TIME_ZERO: return "some time is 0";
+        case ZUL_REFUSED_ARROW_COUNT: return "there are more than 2,048 arrows";
+        case ZUL_REFUSED_ARROW_OUTSIDE: return "an arrow names a subtask outside 1 to n";
+        case ZUL_REFUSED_ARROW_TO_ITSELF: return "an arrow leads from a subtask to itself";
+        case ZUL_REFUSED_ARROW_TWICE: return "the same arrow stands twice";
+        case ZUL_REFUSED_CYCLE: return "the arrows close a cycle";
+        case ZUL_REFUSED_PROCESSOR_COUNT: return "M, the count of processors, is not 1 to 16";
+        case ZUL_REFUSED_DEADLINE: return "D, the deadline, is not 1 to 1,000,000";
+        case ZUL_REFUSED_ORDER: return "the order is not exactly n entries that hold each of 1 to n once";
+        case ZUL_REFUSED_ROOM: return "the lent room is too short";
+        case ZUL_REFUSED_PLAN_LENGTH: return "the plan has not exactly n entries";
+        case ZUL_REFUSED_PROCESSOR_OUTSIDE: return "the plan names a processor outside 1 to M";
+        case ZUL_REFUSED_START_LARGE: return "a start is above 16,776,960";
+        case ZUL_REFUSED_START_EARLY: return "a subtask starts before a predecessor ends";
+        case ZUL_REFUSED_OVERLAP: return "two subtasks on one processor share an instant";
+        case ZUL_REFUSED_IDLE: return "at some whole t a subtask is ready and one of the processors 1 to M is free";
+        case ZUL_REFUSED_TEXT_LENGTH: return "the text is above 60,000 bytes";
+        case ZUL_REFUSED_FIRST_LINE: return "the first line is not one number 1 to 256";
+        case ZUL_REFUSED_TASK_LINE: return "a task line is missing or misshapen, or something stands after the last one";
+        case ZUL_REFUSED_DUMMY_LINE: return "line 0 or line n+1 is not a proper dummy";
+        case ZUL_REFUSED_TIME_LARGE: return "a time is above 65,535";
+        default: return "a number that is not in the table";
+    }
+}
+/* end: bindings/refusals.sh */
+
+/* `to` starts when `from` has ended. */
+typedef struct { uint16_t from, to; } zul_arrow;
+
+/* What a plan holds for one subtask: its processor, from 1 on, and its start. It ends at start + time. */
 typedef struct { uint8_t processor; uint32_t start; } zul_entry;
 
-/* Where the plan ends. */
+/* C or P. */
+typedef struct { uint32_t number, value; } zul_amount;
+
+/* C (total work), P (longest path), S = C + (m - 1) * P, the load C / (m * d) rounded once. Where fits is 1 the margin
+ * is the spare m * d - S, where it is 0 the shortfall S - m * d. */
+typedef struct { uint32_t number, c, p, s; float load; uint32_t fits, margin; } zul_answer;
+
+/* Where a plan ends. */
 typedef struct { uint32_t number, end; } zul_plan_end;
 
+/* How many subtasks and arrows a text has. */
 typedef struct { uint32_t number, subtasks, arrows; } zul_counts;
 
+/* The layouts that the archive was compiled for. */
+#if defined(__cplusplus) && __cplusplus >= 201103L
+#define ZUL_LAYOUT(holds) static_assert(holds, "the planner was compiled for another layout")
+#elif defined(__STDC_VERSION__) && __STDC_VERSION__ >= 201112L
+#define ZUL_LAYOUT(holds) _Static_assert(holds, "the planner was compiled for another layout")
+#endif
+#ifdef ZUL_LAYOUT
+ZUL_LAYOUT(sizeof(size_t) == 8);
+ZUL_LAYOUT(sizeof(zul_arrow) == 4 && offsetof(zul_arrow, to) == 2);
+ZUL_LAYOUT(sizeof(zul_entry) == 8 && offsetof(zul_entry, start) == 4);
+ZUL_LAYOUT(sizeof(zul_amount) == 8 && offsetof(zul_amount, value) == 4);
+ZUL_LAYOUT(sizeof(zul_answer) == 28 && offsetof(zul_answer, load) == 16 && offsetof(zul_answer, margin) == 24);
+ZUL_LAYOUT(sizeof(zul_plan_end) == 8 && offsetof(zul_plan_end, end) == 4);
+ZUL_LAYOUT(sizeof(zul_counts) == 12 && offsetof(zul_counts, arrows) == 8);
+#undef ZUL_LAYOUT
+#endif
+
 /* C, the sum of all times. Asks 1 to 7. */
-zul_amount zul_total_work(const uint16_t *times, size_t n, const uint16_t (*arrows)[2], size_t a);
+zul_amount zul_total_work(const uint16_t *times, size_t n, const zul_arrow *arrows, size_t arrows_len);
 
 /* P, the largest sum of times along any path of arrows. Asks 1 to 7. */
-zul_amount zul_longest_path(const uint16_t *times, size_t n, const uint16_t (*arrows)[2], size_t a);
+zul_amount zul_longest_path(const uint16_t *times, size_t n, const zul_arrow *arrows, size_t arrows_len);
 
-/* The verdict for m processors and deadline d (microseconds). Asks 1 to 9. "Fits" holds for every plan that
+/* The verdict for m processors and deadline d (microseconds; "Terms"). Asks 1 to 9. "Fits" holds for every plan that
  * zul_check_plan accepts, and goes on holding when times get shorter, arrows are dropped or processors are added. */
-zul_answer zul_judge(const uint16_t *times, size_t n, const uint16_t (*arrows)[2], size_t a, uint32_t m, uint32_t d);
+zul_answer zul_judge(const uint16_t *times, size_t n, const zul_arrow *arrows, size_t arrows_len, uint32_t m,
+                     uint32_t d);
 
-/* The list rule's plan for an order of all subtasks. Asks 1 to 8, 10, 11. Writes entries 1..n of the row and leaves
- * those past n as they were; with a refusal the whole row stays as it was. */
-zul_plan_end zul_list_plan(const uint16_t *times, size_t n, const uint16_t (*arrows)[2], size_t a, uint32_t m,
+/* The list rule's plan for an order of all subtasks ("List rule"). Asks 1 to 8, 10, 11. Writes entries 1..n of the row
+ * and leaves those past n as they were; with a refusal the whole row stays as it was. */
+zul_plan_end zul_list_plan(const uint16_t *times, size_t n, const zul_arrow *arrows, size_t arrows_len, uint32_t m,
                            const uint16_t *order, size_t order_len, zul_entry *plan, size_t plan_len);
 
-/* Checks a plan from anyone. Asks 1 to 8 and 12 to 17. */
-zul_plan_end zul_check_plan(const uint16_t *times, size_t n, const uint16_t (*arrows)[2], size_t a, uint32_t m,
+/* Checks a plan from anyone ("Acceptance"). Asks 1 to 8 and 12 to 17. */
+zul_plan_end zul_check_plan(const uint16_t *times, size_t n, const zul_arrow *arrows, size_t arrows_len, uint32_t m,
                             const zul_entry *plan, size_t plan_len);
 
-/* Reads a text in the Standard Task Graph Set layout. Asks 11 (fewer than 256 times or 2,048 arrows of room), 20,
- * then 21 to 24 line by line, then 2 to 7. Both rows are written whole: places past the last time and the last
- * arrow are 0, and with a refusal all are. */
-zul_counts zul_read_stg(const uint8_t *text, size_t len, uint16_t *times, size_t times_len,
-                        uint16_t (*arrows)[2], size_t arrows_len);
+/* Reads a text in the layout of the Standard Task Graph Set ("STG text"). Asks 11 (fewer than ZUL_MAX_SUBTASKS times
+ * or ZUL_MAX_ARROWS arrows of room), then 20, then 21 to 24 line by line, then 2 to 7. Both rows are written whole:
+ * places past the last time and the last arrow are 0, and with a refusal all are. */
+zul_counts zul_read_stg(const uint8_t *text, size_t len, uint16_t *times, size_t times_len, zul_arrow *arrows,
+                        size_t arrows_len);
 
 #ifdef __cplusplus
 }

@@ -1,0 +1,91 @@
+//! Proved against plain Rust and against the model, in one process, on several families of graphs, and the stack of each
+//! call: the tables of docs/PERFORMANCE.md.
+//!
+//!     cargo bench                  the tables
+//!     cargo bench -- --rows        first every ratio that they are made from
+
+mod families;
+#[allow(dead_code, unused_imports)]
+#[path = "../../tests/planner/model/mod.rs"]
+mod model;
+mod painted;
+mod plain;
+mod tables;
+
+use families::{families, Sample};
+use std::hint::black_box;
+use std::time::Instant;
+use tables::Row;
+use zulagbemi::{Arrow, Entry, Graph, MAX_ARROWS, MAX_SUBTASKS};
+
+const M: u32 = 4;
+const D: u32 = 1000;
+
+/// The least time of one call over many, in nanoseconds, of two programs taken turn by turn.
+fn least<A, B>(rounds: usize, mut one: impl FnMut() -> A, mut other: impl FnMut() -> B) -> (f64, f64) {
+    (0..rounds).fold((f64::MAX, f64::MAX), |best, _| (best.0.min(timed(&mut one)), best.1.min(timed(&mut other))))
+}
+
+/// The time of one call, in nanoseconds, as a part of 8.
+fn timed<T>(call: &mut impl FnMut() -> T) -> f64 {
+    let start = Instant::now();
+    for _ in 0..8 {
+        black_box(call());
+    }
+    start.elapsed().as_nanos() as f64 / 8.0
+}
+
+/// The two list plans, which must be the same.
+fn plans(s: &Sample, list: impl Fn(&mut [(u8, u32)]) -> Result<u32, u32>) -> (Vec<Entry>, Vec<(u8, u32)>) {
+    let (mut ours, mut theirs) = (vec![Entry::default(); s.order.len()], vec![(0, 0); s.order.len()]);
+    let end = s.graph().list_plan(M, &s.order, &mut ours).expect("an accepted graph");
+    assert_eq!(list(&mut theirs), Ok(end));
+    assert!(ours.iter().zip(&theirs).all(|(e, p)| (e.processor, e.start) == *p));
+    (ours, theirs)
+}
+
+/// Every call against plain Rust.
+fn against_plain(s: &Sample) -> [Row; 6] {
+    let (t, a, order) = (&s.times[..], &s.pairs[..], &s.order[..]);
+    let (plan, pairs) = plans(s, |row| plain::list_plan(t, a, M, order, row));
+    let (mut ours, mut theirs) = (plan.clone(), pairs.clone());
+    let (mut times, mut arrows) = (vec![0u16; MAX_SUBTASKS], vec![Arrow::default(); MAX_ARROWS]);
+    let (mut times2, mut arrows2) = (vec![0u16; MAX_SUBTASKS], vec![[0u16; 2]; MAX_ARROWS]);
+    let g = || Graph::new(black_box(t), &s.arrows);
+    let read = |row: &mut [u16], arrows: &mut [Arrow]| Graph::read_stg(black_box(&s.text), row, arrows).is_ok();
+    let n = 300;
+    [
+        least(n, || g().total_work(), || plain::total_work(black_box(t), a)),
+        least(n, || g().longest_path(), || plain::longest_path(black_box(t), a)),
+        least(n, || g().judge(M, D), || plain::judge(black_box(t), a, M, D)),
+        least(n, || g().list_plan(M, order, &mut ours), || plain::list_plan(black_box(t), a, M, order, &mut theirs)),
+        least(n, || g().check_plan(M, &plan), || plain::check_plan(black_box(t), a, M, &pairs)),
+        least(n, || read(&mut times, &mut arrows), || plain::read_stg(black_box(&s.text), &mut times2, &mut arrows2)),
+    ]
+    .map(|(proved, other)| Row::new(s, proved, other))
+}
+
+/// Three calls against the model, which is written to be read and not to be fast.
+fn against_model(s: &Sample) -> [(&'static str, f64); 3] {
+    let (g, t, a, order) = (s.graph(), &s.times[..], &s.pairs[..], &s.order[..]);
+    let (plan, pairs) = plans(s, |row| model::list_plan(t, a, M, order, row));
+    let (mut ours, mut theirs) = (plan.clone(), pairs.clone());
+    [
+        ("verdict", least(10, || g.judge(M, D), || model::judge(t, a, M, D))),
+        ("list plan", least(3, || g.list_plan(M, order, &mut ours), || model::list_plan(t, a, M, order, &mut theirs))),
+        ("plan check", least(3, || g.check_plan(M, &plan), || model::check_plan(t, a, M, &pairs))),
+    ]
+    .map(|(call, (proved, model))| (call, model / proved))
+}
+
+fn main() {
+    let rows: Vec<[Row; 6]> = [16, 64, 256].into_iter().flat_map(families).map(|s| against_plain(&s)).collect();
+    if std::env::args().any(|word| word == "--rows") {
+        tables::rows(&rows);
+    }
+    tables::by_call(&rows);
+    tables::by_family(&rows);
+    let stencil = families(64).into_iter().find(|s| s.family == "stencil").expect("the family");
+    tables::against_model(&against_model(&stencil));
+    tables::stack(&painted::depths(&families::largest()));
+}

@@ -1,0 +1,66 @@
+//! How deep each call reaches into the stack: it runs on a thread whose stack was painted before, and the paint that is
+//! gone is counted.
+
+use crate::families::Sample;
+use std::hint::black_box;
+use zulagbemi::{Arrow, Entry, Graph, MAX_ARROWS, MAX_SUBTASKS};
+
+const PAINT: u8 = 0xA5;
+const DEEP: usize = 256 * 1024;
+
+/// Paints the stack below this frame, and answers where the paint begins and ends.
+#[inline(never)]
+fn paint() -> (usize, usize) {
+    let mut room = [0u8; DEEP];
+    for byte in &mut room {
+        // SAFETY: the byte is borrowed from the room above. A volatile write is one that is not left out.
+        unsafe { std::ptr::write_volatile(byte, PAINT) };
+    }
+    let begin = black_box(&room).as_ptr() as usize;
+    (begin, begin + DEEP)
+}
+
+/// How far up the paint is gone. It must reach below the stack pointer to see it, so it has no large frame of its own.
+#[inline(never)]
+fn depth(begin: usize, end: usize) -> usize {
+    // SAFETY: every address is one of this thread's own stack, mapped since it was painted; it lies below the stack
+    // pointer, where nothing else of the thread writes meanwhile, and any byte may be read as a u8.
+    let byte = |at: usize| unsafe { std::ptr::read_volatile(at as *const u8) };
+    end - begin - (begin..end).take_while(|at| byte(*at) == PAINT).count()
+}
+
+#[inline(never)]
+fn used(call: impl FnOnce()) -> usize {
+    let (begin, end) = paint();
+    call();
+    depth(begin, end)
+}
+
+fn on_thread(call: impl FnOnce() + Send) -> usize {
+    std::thread::scope(|s| {
+        let thread = std::thread::Builder::new().stack_size(4 * DEEP).spawn_scoped(s, || used(call)).unwrap();
+        thread.join().unwrap()
+    })
+}
+
+/// A reply that nobody reads.
+fn done<T>(_: T) {}
+
+/// Each call and the bytes of stack it uses on this graph.
+pub fn depths(sample: &Sample) -> Vec<(&'static str, usize)> {
+    let (g, order) = (sample.graph(), &sample.order);
+    let mut plan = vec![Entry::default(); order.len()];
+    g.list_plan(4, order, &mut plan).unwrap();
+    let fixed = plan.clone();
+    let (mut times, mut arrows) = (vec![0u16; MAX_SUBTASKS], vec![Arrow::default(); MAX_ARROWS]);
+    let none = on_thread(|| {});
+    let deep = [
+        ("total work", on_thread(|| done(black_box(g.total_work())))),
+        ("longest path", on_thread(|| done(black_box(g.longest_path())))),
+        ("verdict", on_thread(|| done(black_box(g.judge(4, 1000))))),
+        ("list plan", on_thread(|| done(black_box(g.list_plan(4, order, &mut plan))))),
+        ("plan check", on_thread(|| done(black_box(g.check_plan(4, &fixed))))),
+        ("reader", on_thread(|| done(black_box(Graph::read_stg(&sample.text, &mut times, &mut arrows))))),
+    ];
+    deep.map(|(call, deep)| (call, deep.saturating_sub(none))).into()
+}

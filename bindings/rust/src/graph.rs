@@ -1,0 +1,157 @@
+use crate::{linked, Answer, Arrow, Entry, Refusal, Verdict};
+
+/// A graph as two lent rows: the time of each subtask in microseconds, and the arrows. The rows may hold anything; each
+/// method refuses what is no graph.
+#[derive(Clone, Copy, PartialEq, Eq, Debug)]
+pub struct Graph<'a> {
+    times: &'a [u16],
+    arrows: &'a [Arrow],
+}
+
+impl<'a> Graph<'a> {
+    /// The graph of these two rows.
+    #[must_use]
+    pub const fn new(times: &'a [u16], arrows: &'a [Arrow]) -> Self {
+        Self { times, arrows }
+    }
+
+    /// Reads a text in the layout of the Standard Task Graph Set (`docs/PLANNER.md`, "STG text") into two lent rows of
+    /// at least [`MAX_SUBTASKS`] times and [`MAX_ARROWS`] arrows, and answers the graph in them. Places past the last
+    /// time and the last arrow are 0; with a refusal all are.
+    ///
+    /// ```
+    /// use zulagbemi::{Arrow, Graph, MAX_ARROWS, MAX_SUBTASKS};
+    /// let (mut times, mut arrows) = ([0; MAX_SUBTASKS], [Arrow::default(); MAX_ARROWS]);
+    /// let graph = Graph::read_stg(b"2\n0 0 0\n1 5 1 0\n2 7 1 1\n3 0 1 2\n", &mut times, &mut arrows)?;
+    /// assert_eq!(graph, Graph::new(&[5, 7], &[Arrow::new(1, 2)]));
+    /// # Ok::<(), zulagbemi::Refusal>(())
+    /// ```
+    ///
+    /// [`MAX_SUBTASKS`]: crate::MAX_SUBTASKS
+    /// [`MAX_ARROWS`]: crate::MAX_ARROWS
+    pub fn read_stg(text: &[u8], times: &'a mut [u16], arrows: &'a mut [Arrow]) -> Result<Self, Refusal> {
+        // SAFETY: each pointer is a slice's, beside that slice's length; the two rows are borrowed for this call alone.
+        let r = unsafe {
+            linked::zul_read_stg(
+                text.as_ptr(),
+                text.len(),
+                times.as_mut_ptr(),
+                times.len(),
+                arrows.as_mut_ptr(),
+                arrows.len(),
+            )
+        };
+        Refusal::unless(r.number, Self::new(&times[..r.subtasks as usize], &arrows[..r.arrows as usize]))
+    }
+
+    /// The time of each subtask.
+    #[must_use]
+    pub const fn times(self) -> &'a [u16] {
+        self.times
+    }
+
+    /// The arrows.
+    #[must_use]
+    pub const fn arrows(self) -> &'a [Arrow] {
+        self.arrows
+    }
+
+    /// C, the sum of all times.
+    ///
+    /// ```
+    /// use zulagbemi::{Arrow, Graph};
+    /// assert_eq!(Graph::new(&[3, 4], &[Arrow::new(1, 2)]).total_work(), Ok(7));
+    /// ```
+    pub fn total_work(self) -> Result<u32, Refusal> {
+        let (times, arrows) = (self.times, self.arrows);
+        // SAFETY: each pointer is a slice's, beside that slice's length; the call only reads.
+        let r = unsafe { linked::zul_total_work(times.as_ptr(), times.len(), arrows.as_ptr(), arrows.len()) };
+        Refusal::unless(r.number, r.value)
+    }
+
+    /// P, the largest sum of times along any path of arrows; one subtask alone is a path.
+    ///
+    /// ```
+    /// use zulagbemi::{Arrow, Graph};
+    /// assert_eq!(Graph::new(&[3, 4, 5], &[Arrow::new(1, 2)]).longest_path(), Ok(7));
+    /// ```
+    pub fn longest_path(self) -> Result<u32, Refusal> {
+        let (times, arrows) = (self.times, self.arrows);
+        // SAFETY: each pointer is a slice's, beside that slice's length; the call only reads.
+        let r = unsafe { linked::zul_longest_path(times.as_ptr(), times.len(), arrows.as_ptr(), arrows.len()) };
+        Refusal::unless(r.number, r.value)
+    }
+
+    /// Whether the graph on `m` processors fits the deadline `d`. "Fits" holds for every plan that
+    /// [`check_plan`](Self::check_plan) accepts, and goes on holding when times get shorter, arrows are dropped or
+    /// processors are added.
+    ///
+    /// ```
+    /// use zulagbemi::{Graph, Reason, Verdict};
+    /// let graph = Graph::new(&[5, 5], &[]);
+    /// assert_eq!(graph.judge(2, 7)?.verdict, Verdict::Late { shortfall: 1 });
+    /// assert_eq!(graph.judge(17, 7).unwrap_err().reason(), Reason::ProcessorCount);
+    /// # Ok::<(), zulagbemi::Refusal>(())
+    /// ```
+    pub fn judge(self, m: u32, d: u32) -> Result<Answer, Refusal> {
+        let (times, arrows) = (self.times, self.arrows);
+        // SAFETY: each pointer is a slice's, beside that slice's length; the call only reads.
+        let r = unsafe { linked::zul_judge(times.as_ptr(), times.len(), arrows.as_ptr(), arrows.len(), m, d) };
+        let verdict =
+            if r.fits == 1 { Verdict::Fits { spare: r.margin } } else { Verdict::Late { shortfall: r.margin } };
+        let answer = Answer { total_work: r.c, longest_path: r.p, bound: r.s, load: r.load, verdict };
+        Refusal::unless(r.number, answer)
+    }
+
+    /// Writes the list rule's plan (`docs/PLANNER.md`, "List rule") for an order of all subtasks to the first n entries
+    /// of `plan`, and answers where it ends. Entries past n stay as they were; with a refusal all do.
+    ///
+    /// ```
+    /// use zulagbemi::{Arrow, Entry, Graph};
+    /// let mut plan = [Entry::default(); 2];
+    /// assert_eq!(Graph::new(&[3, 4], &[Arrow::new(1, 2)]).list_plan(2, &[1, 2], &mut plan), Ok(7));
+    /// assert_eq!(plan[1], Entry { processor: 1, start: 3 });
+    /// ```
+    pub fn list_plan(self, m: u32, order: &[u16], plan: &mut [Entry]) -> Result<u32, Refusal> {
+        let (times, arrows) = (self.times, self.arrows);
+        // SAFETY: each pointer is a slice's, beside that slice's length; the row is borrowed for this call alone.
+        let r = unsafe {
+            linked::zul_list_plan(
+                times.as_ptr(),
+                times.len(),
+                arrows.as_ptr(),
+                arrows.len(),
+                m,
+                order.as_ptr(),
+                order.len(),
+                plan.as_mut_ptr(),
+                plan.len(),
+            )
+        };
+        Refusal::unless(r.number, r.end)
+    }
+
+    /// Checks a plan from anyone (`docs/PLANNER.md`, "Acceptance"), and answers where it ends.
+    ///
+    /// ```
+    /// use zulagbemi::{Entry, Graph, Reason};
+    /// let late = [Entry { processor: 1, start: 1 }];
+    /// assert_eq!(Graph::new(&[3], &[]).check_plan(1, &late).unwrap_err().reason(), Reason::Idle);
+    /// ```
+    pub fn check_plan(self, m: u32, plan: &[Entry]) -> Result<u32, Refusal> {
+        let (times, arrows) = (self.times, self.arrows);
+        // SAFETY: each pointer is a slice's, beside that slice's length; the call only reads.
+        let r = unsafe {
+            linked::zul_check_plan(
+                times.as_ptr(),
+                times.len(),
+                arrows.as_ptr(),
+                arrows.len(),
+                m,
+                plan.as_ptr(),
+                plan.len(),
+            )
+        };
+        Refusal::unless(r.number, r.end)
+    }
+}

@@ -1,0 +1,77 @@
+//! The functions of the archive as they are linked, and the flat records that they reply with. Their declarations in C
+//! are `bindings/c/zulagbemi.h`; the two are held to the same layouts.
+
+use crate::{Arrow, Entry};
+use core::mem::{align_of, offset_of, size_of};
+
+#[repr(C)]
+pub struct Amount {
+    pub number: u32,
+    pub value: u32,
+}
+
+#[repr(C)]
+pub struct Answer {
+    pub number: u32,
+    pub c: u32,
+    pub p: u32,
+    pub s: u32,
+    pub load: f32,
+    pub fits: u32,
+    pub margin: u32,
+}
+
+#[repr(C)]
+pub struct PlanEnd {
+    pub number: u32,
+    pub end: u32,
+}
+
+#[repr(C)]
+pub struct Counts {
+    pub number: u32,
+    pub subtasks: u32,
+    pub arrows: u32,
+}
+
+const _: () = {
+    assert!(size_of::<usize>() == 8);
+    assert!(size_of::<Arrow>() == 4 && align_of::<Arrow>() == 2 && offset_of!(Arrow, to) == 2);
+    assert!(size_of::<Entry>() == 8 && offset_of!(Entry, start) == 4);
+    assert!(size_of::<Answer>() == 28 && offset_of!(Answer, load) == 16 && offset_of!(Answer, margin) == 24);
+    assert!(size_of::<Amount>() == 8 && size_of::<PlanEnd>() == 8 && size_of::<Counts>() == 12);
+};
+
+extern "C" {
+    pub fn zul_total_work(times: *const u16, n: usize, arrows: *const Arrow, arrows_len: usize) -> Amount;
+    pub fn zul_longest_path(times: *const u16, n: usize, arrows: *const Arrow, arrows_len: usize) -> Amount;
+    pub fn zul_judge(times: *const u16, n: usize, arrows: *const Arrow, arrows_len: usize, m: u32, d: u32) -> Answer;
+    pub fn zul_list_plan(
+        times: *const u16,
+        n: usize,
+        arrows: *const Arrow,
+        arrows_len: usize,
+        m: u32,
+        order: *const u16,
+        order_len: usize,
+        plan: *mut Entry,
+        plan_len: usize,
+    ) -> PlanEnd;
+    pub fn zul_check_plan(
+        times: *const u16,
+        n: usize,
+        arrows: *const Arrow,
+        arrows_len: usize,
+        m: u32,
+        plan: *const Entry,
+        plan_len: usize,
+    ) -> PlanEnd;
+    pub fn zul_read_stg(
+        text: *const u8,
+        len: usize,
+        times: *mut u16,
+        times_len: usize,
+        arrows: *mut Arrow,
+        arrows_len: usize,
+    ) -> Counts;
+}

@@ -1,0 +1,100 @@
+//! One input to the planner and to the model, and the replies and rows compared.
+
+use crate::common::graphs::{graph, processors};
+use crate::common::random::Random;
+use crate::common::{arrows, entries};
+use crate::model;
+use zulagbemi::{Arrow, Entry, Graph, Reason, Refusal, Verdict};
+
+/// The reply with its refusal as the bare number, which must be one of the table.
+fn number<T>(reply: Result<T, Refusal>) -> Result<T, u32> {
+    reply.map_err(|r| {
+        assert_ne!(r.reason(), Reason::Unlisted);
+        r.number()
+    })
+}
+
+fn pairs(plan: &[Entry]) -> Vec<model::Entry> {
+    plan.iter().map(|e| (e.processor, e.start)).collect()
+}
+
+/// A graph in both forms, lent to the planner and to the model.
+pub struct Case {
+    pub times: Vec<u16>,
+    pairs: Vec<[u16; 2]>,
+    arrows: Vec<Arrow>,
+    m: u32,
+}
+
+impl Case {
+    pub fn new(random: &mut Random) -> Self {
+        let (times, pairs) = graph(random);
+        let arrows = arrows(&pairs);
+        Self { times, pairs, arrows, m: processors(random) }
+    }
+
+    fn graph(&self) -> Graph<'_> {
+        Graph::new(&self.times, &self.arrows)
+    }
+
+    /// A deadline at or beside the least one that fits, or at a limit.
+    pub fn deadline(&self, random: &mut Random) -> u32 {
+        let near = model::judge(&self.times, &self.pairs, self.m, 1).map_or(1, |a| a.s / self.m);
+        match random.below(12) {
+            0 => random.pick(&[0, 1, 1_000_000, 1_000_001, u32::MAX]),
+            _ => near.saturating_add(random.below(3) as u32).saturating_sub(1),
+        }
+    }
+
+    pub fn same_figures(&self, d: u32) {
+        let (g, t, a, m) = (self.graph(), &self.times[..], &self.pairs[..], self.m);
+        assert_eq!(number(g.total_work()), model::total_work(t, a), "{g:?}");
+        assert_eq!(number(g.longest_path()), model::longest_path(t, a), "{g:?}");
+        let proved = number(g.judge(m, d)).map(|a| model::Answer {
+            c: a.total_work,
+            p: a.longest_path,
+            s: a.bound,
+            load: a.load,
+            verdict: match a.verdict {
+                Verdict::Fits { spare } => Ok(spare),
+                Verdict::Late { shortfall } => Err(shortfall),
+            },
+        });
+        assert_eq!(proved, model::judge(t, a, m, d), "{g:?} {m} {d}");
+    }
+
+    /// Compares the two list plans, the rows after the call too, and answers the row.
+    pub fn same_list(&self, random: &mut Random, order: &[u16]) -> Option<Vec<model::Entry>> {
+        let (g, n, m) = (self.graph(), self.times.len(), self.m);
+        let room = if random.once_in(8) { n.saturating_sub(1) } else { n + random.below(3) as usize };
+        let before: Vec<model::Entry> = (0..room).map(|k| (random.below(256) as u8, k as u32 + 7)).collect();
+        let (mut ours, mut theirs) = (entries(&before), before);
+        let reply = number(g.list_plan(m, order, &mut ours));
+        assert_eq!(reply, model::list_plan(&self.times, &self.pairs, m, order, &mut theirs), "{g:?} {m} {order:?}");
+        assert_eq!(pairs(&ours), theirs, "{g:?} {m} {order:?}");
+        reply.ok().map(|_| theirs[..n].to_vec())
+    }
+
+    pub fn same_check(&self, plan: &[model::Entry]) -> Result<u32, u32> {
+        let (g, m) = (self.graph(), self.m);
+        let reply = number(g.check_plan(m, &entries(plan)));
+        assert_eq!(reply, model::check_plan(&self.times, &self.pairs, m, plan), "{g:?} {m} {plan:?}");
+        reply
+    }
+}
+
+/// Compares the two readings of a text in rows of this much room, the rows after the call too, and answers the number.
+pub fn same_reading(text: &[u8], (t, a): (usize, usize)) -> u32 {
+    let (mut ours, mut ours_arrows) = (vec![0xAAAA_u16; t], vec![Arrow::new(7, 9); a]);
+    let reply = number(Graph::read_stg(text, &mut ours, &mut ours_arrows).map(|g| (g.times().len(), g.arrows().len())));
+    let expected = model::read_stg(text, t, a);
+    let (mut times, mut pairs) = (vec![0u16; t], vec![[0u16, 0]; a]);
+    if let Ok((ts, ar)) = &expected {
+        times[..ts.len()].copy_from_slice(ts);
+        pairs[..ar.len()].copy_from_slice(ar);
+    }
+    let shown = String::from_utf8_lossy(text);
+    assert_eq!(reply, expected.as_ref().map(|g| (g.0.len(), g.1.len())).map_err(|k| *k), "{shown}");
+    assert_eq!((ours, ours_arrows), (times, arrows(&pairs)), "{shown}");
+    expected.err().unwrap_or(0)
+}

@@ -1,0 +1,90 @@
+//! The reader.
+
+use super::graph_number;
+
+/// `Ok` holds the times and the arrows of the graph that was read.
+pub fn read_stg(text: &[u8], times_room: usize, arrows_room: usize) -> Result<(Vec<u16>, Vec<[u16; 2]>), u32> {
+    if times_room < 256 || arrows_room < 2048 {
+        return Err(11);
+    }
+    if text.len() > 60_000 {
+        return Err(20);
+    }
+    let lines = lines(text);
+    let first = lines.first().and_then(|l| numbers(l)).ok_or(21u32)?;
+    if first.len() != 1 || !(1..=256).contains(&first[0]) {
+        return Err(21);
+    }
+    let n = first[0] as usize;
+    let (times, arrows) = tasks(n, &lines[1..])?;
+    for line in &lines[(n + 3).min(lines.len())..] {
+        let blank = line.iter().all(|b| *b == b' ' || *b == b'\t');
+        if !blank && line.first() != Some(&b'#') {
+            return Err(22);
+        }
+    }
+    if times.contains(&0) {
+        return Err(2);
+    }
+    if arrows.len() > 2048 {
+        return Err(3);
+    }
+    if arrows.iter().any(|a| a[0] < 1 || a[0] > n as u64) {
+        return Err(4);
+    }
+    let arrows: Vec<[u16; 2]> = arrows.iter().map(|a| [a[0] as u16, a[1] as u16]).collect();
+    match graph_number(&times, &arrows) {
+        0 => Ok((times, arrows)),
+        k => Err(k),
+    }
+}
+
+/// The lines of a text without their ends, LF or CR LF; the last may lack its end.
+fn lines(text: &[u8]) -> Vec<&[u8]> {
+    let mut lines: Vec<&[u8]> = text.split(|b| *b == b'\n').collect();
+    if lines.last() == Some(&&b""[..]) {
+        lines.pop();
+    }
+    let ended = if text.ends_with(b"\n") { lines.len() } else { lines.len().saturating_sub(1) };
+    for line in &mut lines[..ended] {
+        *line = line.strip_suffix(b"\r").unwrap_or(line);
+    }
+    lines
+}
+
+/// The lines of tasks 0 to n+1: each subtask's time, and every arrow with a predecessor as it was written.
+fn tasks(n: usize, lines: &[&[u8]]) -> Result<(Vec<u16>, Vec<[u64; 2]>), u32> {
+    let mut times: Vec<u16> = Vec::new();
+    let mut arrows: Vec<[u64; 2]> = Vec::new();
+    for i in 0..=n + 1 {
+        let fields = lines.get(i).and_then(|l| numbers(l)).ok_or(22u32)?;
+        if fields.len() < 3 || fields[0] != i as u64 || fields.len() as u64 - 3 != fields[2] {
+            return Err(22);
+        }
+        let (time, preds) = (fields[1], &fields[3..]);
+        if i == 0 || i == n + 1 {
+            let proper = time == 0 && if i == 0 { preds.is_empty() } else { preds.iter().all(|p| *p <= n as u64) };
+            if !proper {
+                return Err(23);
+            }
+            continue;
+        }
+        if time > 65_535 {
+            return Err(24);
+        }
+        times.push(time as u16);
+        arrows.extend(preds.iter().filter(|p| **p != 0).map(|p| [*p, i as u64]));
+    }
+    Ok((times, arrows))
+}
+
+/// The numbers of a line, or nothing where it is misshapen.
+fn numbers(line: &[u8]) -> Option<Vec<u64>> {
+    line.split(|b| *b == b' ' || *b == b'\t')
+        .filter(|f| !f.is_empty())
+        .map(|f| {
+            let digits = f.len() <= 8 && f.iter().all(u8::is_ascii_digit);
+            digits.then(|| f.iter().fold(0, |v, b| v * 10 + u64::from(b - b'0')))
+        })
+        .collect()
+}

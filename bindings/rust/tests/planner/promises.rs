@@ -1,0 +1,40 @@
+//! What the header and the crate say of stack, threads and libraries.
+
+use crate::common::ran;
+use crate::{families, painted};
+use std::process::Command;
+use zulagbemi::Entry;
+
+#[test]
+fn less_than_16_kib_of_stack() {
+    for (call, deep) in painted::depths(&families::largest()) {
+        println!("{call}: {deep} bytes");
+        assert!(deep > 1024, "{call}: {deep} bytes, which is too little to be true");
+        assert!(deep < 16 * 1024, "{call}: {deep} bytes");
+    }
+}
+
+#[test]
+fn threads_at_once() {
+    let sample = families::largest();
+    let (graph, order) = (sample.graph(), &sample.order);
+    let replies = || {
+        let mut plan = vec![Entry::default(); order.len()];
+        let end = graph.list_plan(4, order, &mut plan);
+        (graph.judge(4, 1000), end, graph.check_plan(4, &plan), plan)
+    };
+    let alone = replies();
+    std::thread::scope(|s| {
+        let threads = [(); 8].map(|()| s.spawn(|| (0..200).all(|_| replies() == alone)));
+        assert!(threads.into_iter().all(|thread| thread.join().unwrap()));
+    });
+}
+
+/// What the archive leaves to be linked is what a freestanding C library has too.
+#[test]
+fn no_library_but_memory() {
+    let listed = ran(Command::new("nm").args(["-u", concat!(env!("ZULAGBEMI_LINKED"), "/libzulagbemi.a")]));
+    let names = listed.lines().filter_map(|line| line.trim().strip_prefix("U "));
+    let others: Vec<&str> = names.filter(|name| !["memcpy", "memmove", "memset", "memcmp"].contains(name)).collect();
+    assert!(others.is_empty(), "{others:?}");
+}
