@@ -14,7 +14,6 @@ use Rattle.terms.specs.Refusals.{timeAndArrowRows, graphRows, verdictRows, list
 use Rattle.terms.specs.Replies.{IsCheck, IsMeasure, IsTotalWork, IsLongestPath, IsOutcome, IsListed, IsChecked}
 use Rattle.terms.specs.Readings.{graph, isSize, isFirst, isShape, isTask, isEntryDummy, isExitDummy, mayFollow, arrowsInto, withTask, trailer, exitLine, taskLines, entryLine, readLines, readText, IsReplyTo, IsRead}
 use Rattle.terms.specs.Texts.{allPass, lines, fields, valueFrom, proper, numbers}
-use Rattle.terms.specs.Alterations.{Altered}
 use Rattle.terms.specs.declared.Entry.{Entry}
 use Rattle.terms.specs.declared.Refusal.{Refusal}
 use Rattle.terms.specs.declared.Figures.{Figures}
@@ -22,14 +21,10 @@ use Rattle.terms.specs.declared.Verdict.{Verdict}
 use Rattle.terms.specs.declared.PlanEnd.{PlanEnd}
 use Rattle.terms.specs.declared.Outcome.the-variants.{Judged}
 use Rattle.terms.specs.declared.Verdict.the-variants.{Fits, Late}
-use Rattle.terms.proofs.Examples.{timesG, arrowsG, orderG, fewerG, ListPlanEnds, examples}
-use Rattle.terms.proofs.AlteredG.{dropped-G}
-use Rattle.theory.specs.Sound.{SoundGraph}
-use Rattle.theory.proofs.Accepted.{sound-graph, read-accepted, busy-plan, accepted-plan, accepted-verdict}
+use Rattle.theory.proofs.Accepted.{read-accepted, busy-plan, accepted-plan, accepted-verdict}
 use Rattle.theory.proofs.Paths.{one-longest}
 use Rattle.theory.proofs.ListRule.{by-rule, still-early, ends-early}
 use Rattle.theory.proofs.Answers.{not-both}
-use Rattle.theory.proofs.Dropping.{dropped-altered}
 use Rattle.theory.proofs.Pairs.{none-precedes, both, first, second, pair-sound, pair-longest, pair-total, inTurn, pair-order, one-processor, pair-figures, pair-listed, short, short-sound, short-accepted, turns, turns-busy}
 use Rattle.terms.specs.declared.Check.the-variants as check
 use Rattle.terms.specs.declared.Measure.the-variants as measure
@@ -184,21 +179,3 @@ checks-gap E h = busy-plan short [] 1 gap (h .0) .1 .busy 1 (record {
   inRange = record { low = omega arith; high = omega arith };
   free = λ j s e r. both (λ j. RunsAt short gap j 1 → ⊥) (λ q. omega (arith, q .unended)) (λ q. omega (arith, q .begun)) j s r;
 })
-
--- ---- takes the list plan's end as the verdict: G on 3 processors, whose list plan ends at 12, and G without 4→5 and 4→6, whose list plan ends at 16
-
--- where a list plan ends by D, that of an altered graph does too
-abbrev pub PlanEndGoesOn : Type 0
-PlanEndGoesOn = (times times′ : List ℕ) (arrows arrows′ : List (List ℕ)) (order : List ℕ) (M M′ D E : ℕ)
-    → Altered times arrows M times′ arrows′ M′ → ListPlanEnds times arrows order M D → ListPlanEnds times′ arrows′ order M′ E → E ≤ D
-
-pub plan-end-is-no-verdict : ¬ PlanEndGoesOn
-plan-end-is-no-verdict goesOn =
-    let e : 16 ≤ 12 = goesOn timesG timesG arrowsG fewerG orderG 3 3 12 16 altered (examples .one .1) (examples .four) in omega (arith, e)
-  where
-    accepted : SoundGraph timesG arrowsG
-    accepted = sound-graph timesG arrowsG (examples .one .0 .accepted)
-
-    altered : Altered timesG arrowsG 3 timesG fewerG 3
-    altered = dropped-altered dropped-G accepted refl
-        (λ j s. record { low = accepted .positive j s; high = omega arith }) (record { low = omega arith; high = omega arith })

@@ -37,5 +37,6 @@ pub mod OneReply
 pub mod Alterations
 pub mod Dropping
 pub mod DemandThree
+pub mod OtherVerdicts
 pub mod Pairs
 pub mod Dummies
