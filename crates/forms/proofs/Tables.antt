@@ -19,7 +19,8 @@ same-entry e f = rw (e, f) refl
 -- ---- from two rows to a table
 
 -- the plan of two rows, which need not be of one length
-entries-below : (processors starts : List ℕ) (k : ℕ) → k < length processors → k < length starts → getD (entries processors starts) k notPlaced ≡ at (getD processors k 0) (getD starts k 0)
+entries-below : (processors starts : List ℕ) (k : ℕ) → k < length processors → k < length starts
+    → getD (entries processors starts) k notPlaced ≡ at (getD processors k 0) (getD starts k 0)
 unfolding entries
 entries-below [] starts k l m = absurd (omega arith)
 entries-below (p ∷ ps) [] k l m = absurd (omega arith)
@@ -62,7 +63,8 @@ module _ {table : List Entry} {processors starts : List ℕ} where
   }
 
   module _ {i : ℕ} (h : Joined table processors starts i) where
-    pub joined-more : i < 256 → i < length processors → i < length starts → Joined (set table i (at (getD processors i 0) (getD starts i 0))) processors starts (i + 1)
+    pub joined-more : i < 256 → i < length processors → i < length starts
+        → Joined (set table i (at (getD processors i 0) (getD starts i 0))) processors starts (i + 1)
     joined-more b l m = record {
       long = length-set table i _ ∙ h .long;
       inProcessors = omega arith;

@@ -40,4 +40,5 @@ pub record IsSplit (table : List Entry) (processors starts processors′ starts�
   pub long-processors : length processors′ ≡ length processors
   pub long-starts : length starts′ ≡ length starts
   pub held : (k : ℕ) → k < min 256 (min (length processors) (length starts)) → at (getD processors′ k 0) (getD starts′ k 0) ≡ getD table k notPlaced
-  pub past : (k : ℕ) → min 256 (min (length processors) (length starts)) ≤ k → (getD processors′ k 0 ≡ getD processors k 0) × (getD starts′ k 0 ≡ getD starts k 0)
+  pub past : (k : ℕ) → min 256 (min (length processors) (length starts)) ≤ k
+      → (getD processors′ k 0 ≡ getD processors k 0) × (getD starts′ k 0 ≡ getD starts k 0)

@@ -14,7 +14,8 @@ pub none-before : (times procs starts : List ℕ) (i : ℕ) → NoneTo (Clash ti
 none-before times procs starts i k l c = omega (arith, c .after)
 
 module _ (times procs starts : List ℕ) (i : ℕ) (none : NoneTo (Clashes times procs starts) i) where
-  pub pair-found : {j : ℕ} → i < length times → FirstSubtask (length times) (Clash times procs starts (i + 1)) j → j ≢ 0 → FirstClash times procs starts (record { lower = record { 0 = i + 1 }; higher = record { 0 = j } })
+  pub pair-found : {j : ℕ} → i < length times → FirstSubtask (length times) (Clash times procs starts (i + 1)) j → j ≢ 0
+      → FirstClash times procs starts (record { lower = record { 0 = i + 1 }; higher = record { 0 = j } })
   pair-found {j} l f h =
       let x = first-is (Clash times procs starts (i + 1)) f h in record {
         first-lower = first-here _ (λ k. Clashes times procs starts (k + 1)) i l none (record { other = j; isSubtask = x .0; clash = x .1 });

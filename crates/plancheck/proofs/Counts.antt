@@ -36,13 +36,15 @@ pub among-none : (times starts : List ℕ) (t : ℕ) → runningAmong times star
 unfolding runningAmong sum
 among-none times starts t = refl
 
-pub among-more : (times starts : List ℕ) (t j s e b : ℕ) → s ≡ itemOf starts (j + 1) → e ≡ finishOf times starts (j + 1) → b ≡ runsIn s e t → runningAmong times starts t (j + 1) ≡ runningAmong times starts t j + b
+pub among-more : (times starts : List ℕ) (t j s e b : ℕ) → s ≡ itemOf starts (j + 1) → e ≡ finishOf times starts (j + 1) → b ≡ runsIn s e t
+    → runningAmong times starts t (j + 1) ≡ runningAmong times starts t j + b
 unfolding runningAmong sum
 among-more times starts t j s e b p q r = rw (r, p, q, add-one j) refl
 
 -- where every subtask is placed, those are the ones that run
 pub among-running : (times starts : List ℕ) (plan : List Entry) (t : ℕ) → ((j : ℕ) → IsSubtask times j → Placed plan j)
-    → ((j : ℕ) → startOf plan j ≡ itemOf starts j) → ((j : ℕ) → endOf times plan j ≡ finishOf times starts j) → runningAmong times starts t (length times) ≡ running times plan t
+    → ((j : ℕ) → startOf plan j ≡ itemOf starts j) → ((j : ℕ) → endOf times plan j ≡ finishOf times starts j) → runningAmong times starts t
+    (length times) ≡ running times plan t
 unfolding runningAmong running runsIn runs
 among-running times starts plan t placed start end = sum-eq (length times) _ _ (λ i l. one (suc i) (record { low = omega arith; high = l }))
   where
@@ -80,7 +82,9 @@ module _ (times starts ready : List ℕ) (M : ℕ) where
       fits = h .fits;
       holds = h .holds;
       first = h .first;
-      later = λ k a x s d. by-cases (ℕ-discrete k j) (λ c. rw c (omega (arith, q, l))) (λ c. h .later k (record { low = a .low; high = omega (arith, a .high, c) }) x s d);
+      later =
+          λ k a x s d. by-cases (ℕ-discrete k j) (λ c. rw c (omega (arith, q, l)))
+          (λ c. h .later k (record { low = a .low; high = omega (arith, a .high, c) }) x s d);
     }
 
     module _ {r : ℕ} (f : FirstSubtask (length times) (Idles times starts ready M e) r) where
@@ -89,7 +93,9 @@ module _ (times starts ready : List ℕ) (M : ℕ) where
         fits = omega (arith, h .fits, l);
         holds = λ _. (r, x .0, x .1);
         first = λ j s d. omega (arith, h .first j s d, l);
-        later = λ k a x s d. by-cases (ℕ-discrete k j) (λ c. rw c (omega (arith, q))) (λ c. omega (arith, h .later k (record { low = a .low; high = omega (arith, a .high, c) }) x s d, l));
+        later =
+            λ k a x s d. by-cases (ℕ-discrete k j) (λ c. rw c (omega (arith, q)))
+            (λ c. omega (arith, h .later k (record { low = a .low; high = omega (arith, a .high, c) }) x s d, l));
       }
 
       pub earliest-skips : r ≡ 0 → Earliest times starts ready M j found
@@ -97,5 +103,8 @@ module _ (times starts ready : List ℕ) (M : ℕ) where
         fits = h .fits;
         holds = h .holds;
         first = h .first;
-        later = λ k a x s d. by-cases (ℕ-discrete k j) (λ c. absurd (first-no (Idles times starts ready M e) f z x s (rw (ap (finishOf times starts) c ∙ sym q) at d))) (λ c. h .later k (record { low = a .low; high = omega (arith, a .high, c) }) x s d);
+        later =
+            λ k a x s d. by-cases (ℕ-discrete k j)
+            (λ c. absurd (first-no (Idles times starts ready M e) f z x s (rw (ap (finishOf times starts) c ∙ sym q) at d)))
+            (λ c. h .later k (record { low = a .low; high = omega (arith, a .high, c) }) x s d);
       }

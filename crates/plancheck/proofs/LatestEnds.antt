@@ -26,7 +26,9 @@ module _ (times : List ℕ) (arrows : List (List ℕ)) (starts : List ℕ) where
     pub latest-more : LatestEnds times arrows starts (i + 1) (set ready v r)
     latest-more = record {
       long = length-set ready v r ∙ h .long;
-      each = λ j m. read-set (λ x. LatestEnd times arrows starts (i + 1) j x) ready v r j (omega (arith, h .long, l)) (λ c. here j c (h .each j m)) (λ c. there j c (h .each j m));
+      each =
+          λ j m. read-set (λ x. LatestEnd times arrows starts (i + 1) j x) ready v r j (omega (arith, h .long, l)) (λ c. here j c (h .each j m))
+          (λ c. there j c (h .each j m));
     }
       where
         here : (j : ℕ) → j ≡ v → LatestEnd times arrows starts i j (getD ready j 0) → LatestEnd times arrows starts (i + 1) j r

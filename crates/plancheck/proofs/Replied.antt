@@ -57,7 +57,8 @@ module _ {times : List ℕ} {arrows : List (List ℕ)} {M : ℕ} {procs starts :
       omega (arith, e .2, b .sound .starts (e .0) (e .1), short (e .0) (e .1))
 
 -- the two rows of a table's front
-module _ {times : List ℕ} {arrows : List (List ℕ)} {M : ℕ} {table : List Entry} {procs starts procs′ starts′ : List ℕ} (given : Given times arrows M procs starts)
+module _ {times : List ℕ} {arrows : List (List ℕ)} {M : ℕ} {table : List Entry} {procs starts procs′ starts′ : List ℕ}
+    (given : Given times arrows M procs starts)
     (parts : IsSplit table procs starts procs′ starts′) where
   pub split-given : Given times arrows M procs′ starts′
   split-given = record {
@@ -67,5 +68,6 @@ module _ {times : List ℕ} {arrows : List (List ℕ)} {M : ℕ} {table : List E
     long-starts = parts .long-starts ∙ given .long-starts;
   }
 
-  pub split-checked : (r : PlanEnd) → length table ≡ 256 → IsChecked times arrows M (entries procs′ starts′) r → IsChecked times arrows M (take (length times) table) r
+  pub split-checked : (r : PlanEnd) → length table ≡ 256 → IsChecked times arrows M (entries procs′ starts′) r
+      → IsChecked times arrows M (take (length times) table) r
   split-checked r t c = rw (split-entries (length times) t (given .graph .count .high) (given .long-procs) (given .long-starts) parts) at c

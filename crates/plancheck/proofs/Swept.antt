@@ -42,7 +42,8 @@ module _ (times : List ℕ) (M : ℕ) (procs starts ready row : List ℕ) where
     pub apart : (x y : ℕ) → x < y → y < k → itemOf procs (nth row x) ≡ itemOf procs (nth row y) → finishOf times starts (nth row x) ≤ itemOf starts (nth row y)
     -- every slack instant before the last start lies before the end of the latest slack; no swept subtask was ready at one
     pub slack-ends : (t p : ℕ) → t < before → Among 1 M p → FreeAt times (entries procs starts) p t → t < slack
-    pub busy : (x : ℕ) → x < k → (t p : ℕ) → t < itemOf starts (nth row x) → Among 1 M p → FreeAt times (entries procs starts) p t → t < getD ready (nth row x) 0
+    pub busy : (x : ℕ) → x < k → (t p : ℕ) → t < itemOf starts (nth row x) → Among 1 M p → FreeAt times (entries procs starts) p t
+        → t < getD ready (nth row x) 0
 
   pub swept-none : Swept (replicate 17 0) 0 0 0
   swept-none = record {
@@ -88,7 +89,9 @@ module _ {times : List ℕ} {M : ℕ} {procs starts ready : List ℕ} (laid : Sw
 
     -- the slack before s
     slack-to : (t q : ℕ) → t < s → Among 1 M q → FreeAt times (entries procs starts) q t → t < slack'
-    slack-to t q b a free = ⊎-elim (λ r. omega (arith, r, b)) (λ r. by-cases (decLt t before) (λ o. omega (arith, r .0, h .slack-ends t q o a free)) (λ o. absurd (ran o (r .1 q a)))) slacks
+    slack-to t q b a free =
+        ⊎-elim (λ r. omega (arith, r, b))
+        (λ r. by-cases (decLt t before) (λ o. omega (arith, r .0, h .slack-ends t q o a free)) (λ o. absurd (ran o (r .1 q a)))) slacks
       where
         ran : ¬ (t < before) → ¬ (s ≤ getD until q 0)
         ran o u =
@@ -105,25 +108,30 @@ module _ {times : List ℕ} {M : ℕ} {procs starts ready : List ℕ} (laid : Sw
           (λ c _. (k, omega arith, rw (← is) (sym on ∙ sym c), rw (← is) (sym end)))
           (λ c v. let w = h .last q v in (w .0, omega (arith, w .1), w .2, w .3));
       ended = below-more (λ x. finishOf times starts (nth row x) ≤ getD (set until p e) (itemOf procs (nth row x)) 0) k
-          (λ x b. read-set (λ v. finishOf times starts (nth row x) ≤ v) until p e (itemOf procs (nth row x)) room (λ c. omega (arith, on-same x b c, clear, later)) (λ c. h .ended x b))
+          (λ x b. read-set (λ v. finishOf times starts (nth row x) ≤ v) until p e (itemOf procs (nth row x)) room
+          (λ c. omega (arith, on-same x b c, clear, later)) (λ c. h .ended x b))
           (rw (← is) (read-set (λ v. finishOf times starts j ≤ v) until p e (itemOf procs j) room (λ c. omega (arith, end)) (λ c. absurd (c (sym on)))));
       apart = λ x y b c q. by-cases (ℕ-discrete y k) (λ z. new-apart x y b z q) (λ z. h .apart x y b (omega (arith, c, z)) q);
       slack-ends = slack-to;
-      busy = below-more (λ x. (t q : ℕ) → t < itemOf starts (nth row x) → Among 1 M q → FreeAt times (entries procs starts) q t → t < getD ready (nth row x) 0) k (h .busy)
+      busy =
+          below-more (λ x. (t q : ℕ) → t < itemOf starts (nth row x) → Among 1 M q → FreeAt times (entries procs starts) q t → t < getD ready
+          (nth row x) 0) k (h .busy)
           (rw (← is) (λ t q b a free. omega (arith, slack-to t q (omega (arith, b, start)) a free, due)));
     }
       where
         on-same : (x : ℕ) → x < k → itemOf procs (nth row x) ≡ p → finishOf times starts (nth row x) ≤ getD until p 0
         on-same x b c = subst (λ (q : ℕ). finishOf times starts (nth row x) ≤ getD until q 0) c (h .ended x b)
 
-        new-apart : (x y : ℕ) → x < y → y ≡ k → itemOf procs (nth row x) ≡ itemOf procs (nth row y) → finishOf times starts (nth row x) ≤ itemOf starts (nth row y)
+        new-apart : (x y : ℕ) → x < y → y ≡ k → itemOf procs (nth row x) ≡ itemOf procs (nth row y)
+            → finishOf times starts (nth row x) ≤ itemOf starts (nth row y)
         new-apart x y b z q =
             let w : nth row y ≡ j = ap (nth row) z ∙ sym is in
             let v : itemOf procs (nth row x) ≡ p = q ∙ ap (itemOf procs) w ∙ sym on in
             rw w (omega (arith, on-same x (omega (arith, b, z)) v, clear, start))
 
   -- all are swept
-  pub swept-all : {row until : List ℕ} {before slack k : ℕ} → Swept times M procs starts ready row until before slack k → length times ≤ k → ApartAndBusy times M procs starts ready
+  pub swept-all : {row until : List ℕ} {before slack k : ℕ} → Swept times M procs starts ready row until before slack k → length times ≤ k
+      → ApartAndBusy times M procs starts ready
   unfolding finishOf
   swept-all {row} {k = k} h l = record {
     apart = λ i j s q c. distinct i j c (at i s) (at j q);
@@ -159,7 +167,8 @@ module _ {times : List ℕ} {M : ℕ} {procs starts ready : List ℕ} (laid : Sw
           omega (arith, w, c .after)))
 
 -- one processor more that is not free before s
-pub full-more : (until : List ℕ) (s p : ℕ) → ((q : ℕ) → Among 1 p q → s ≤ getD until q 0) → s ≤ getD until (p + 1) 0 → (q : ℕ) → Among 1 (p + 1) q → s ≤ getD until q 0
+pub full-more : (until : List ℕ) (s p : ℕ) → ((q : ℕ) → Among 1 p q → s ≤ getD until q 0) → s ≤ getD until (p + 1) 0 → (q : ℕ) → Among 1 (p + 1) q
+    → s ≤ getD until q 0
 full-more until s p h l q a = by-cases (ℕ-discrete q (p + 1)) (λ e. rw e l) (λ e. h q (record { low = a .low; high = omega (arith, a .high, e) }))
 
 -- ---- for the code
@@ -169,7 +178,8 @@ unfolding nth
 nth-is row x j e = e
 
 -- every processor has its place in a row of 17
-pub until-room : {times : List ℕ} {M : ℕ} {procs starts ready : List ℕ} {j p : ℕ} → Sweepable times M procs starts ready → IsSubtask times j → p ≡ itemOf procs j → p < 17
+pub until-room : {times : List ℕ} {M : ℕ} {procs starts ready : List ℕ} {j p : ℕ} → Sweepable times M procs starts ready → IsSubtask times j
+    → p ≡ itemOf procs j → p < 17
 until-room {j = j} laid s e = omega (arith, laid .placed j s .high, laid .processors, e)
 
 pub low-starts : {times starts : List ℕ} → Timed times starts → Low starts

@@ -102,7 +102,9 @@ module _ {times : List ℕ} {arrows : List (List ℕ)} {M : ℕ} {procs starts :
       timed-by z = record {
         few = given .graph .count .high;
         long = given .long-starts;
-        low = λ j s. by-cases (decLe (itemOf starts j) 16776960) (λ l. l) (λ l. absurd (first-no (λ j. 16776960 < itemOf starts j) f z j (in-starts s) (omega arith)));
+        low =
+            λ j s. by-cases (decLe (itemOf starts j) 16776960) (λ l. l)
+            (λ l. absurd (first-no (λ j. 16776960 < itemOf starts j) f z j (in-starts s) (omega arith)));
       }
 
     left-15 : Timed times starts → Left times arrows M procs starts 15
@@ -131,7 +133,9 @@ module _ {times : List ℕ} {arrows : List (List ℕ)} {M : ℕ} {procs starts :
         placed = placed;
         timed = timed;
         row = latest;
-        ordered = λ j s. by-cases (decLe (getD ready j 0) (itemOf starts j)) (λ l. l) (λ l. absurd (first-no (λ j. itemOf starts j < getD ready j 0) f z j (in-starts s) (omega arith)));
+        ordered =
+            λ j s. by-cases (decLe (getD ready j 0) (itemOf starts j)) (λ l. l)
+            (λ l. absurd (first-no (λ j. itemOf starts j < getD ready j 0) f z j (in-starts s) (omega arith)));
       }
 
 module _ {times : List ℕ} {arrows : List (List ℕ)} {M : ℕ} {procs starts ready : List ℕ} (known : Prepared times arrows M procs starts ready) where
@@ -213,7 +217,8 @@ module _ {times : List ℕ} {arrows : List (List ℕ)} {M : ℕ} {procs starts r
         let j = x .1 .other in
         let q = x .1 .isSubtask in
         let c = x .1 .clash in
-        let u = share times (entries procs starts) i j (is-placed i (x .0)) (is-placed j q) (known .given .graph .positive i (x .0)) (known .given .graph .positive j q)
+        let u = share times (entries procs starts) i j (is-placed i (x .0)) (is-placed j q) (known .given .graph .positive i (x .0))
+        (known .given .graph .positive j q)
         (omega (arith, c .left, starts-at i, ends-at j)) (omega (arith, c .right, starts-at j, ends-at i)) in
         let shares : Share times (entries procs starts) i j = record {
           two = λ e. omega (arith, e, c .after);
@@ -261,8 +266,11 @@ module _ {times : List ℕ} {arrows : List (List ℕ)} {M : ℕ} {procs starts r
       pub busy-instants : In16Bits times → never ≤ t → BusyPlan times arrows M (entries procs starts)
       busy-instants short l = record { sound = sound; busy = λ u d. none (idle-at-event times arrows M (entries procs starts) (known .given .graph) u d) }
         where
-          none : {v : ℕ} → ¬ ((u : ℕ) × (u ≤ v) × ((u ≡ 0) ⊎ ((j : ℕ) × IsSubtask times j × (endOf times (entries procs starts) j ≡ u))) × IdleAt times arrows M (entries procs starts) u)
-          none (u, b, inl c, d) = let e : IdleAt times arrows M (entries procs starts) 0 = rw c at d in omega (arith, f .first (e .subtask) (e .isSubtask) (idles 0 e), l)
+          none : {v : ℕ} → ¬
+              ((u : ℕ) × (u ≤ v) × ((u ≡ 0) ⊎ ((j : ℕ) × IsSubtask times j × (endOf times (entries procs starts) j ≡ u))) × IdleAt times arrows M
+              (entries procs starts) u)
+          none (u, b, inl c, d) =
+              let e : IdleAt times arrows M (entries procs starts) 0 = rw c at d in omega (arith, f .first (e .subtask) (e .isSubtask) (idles 0 e), l)
           none (u, b, inr (j, s, c), d) =
               let e : u ≡ finishOf times starts j = sym c ∙ ends-at j in
               omega (arith, f .later j s (d .subtask) (d .isSubtask) (rw e at (idles u d)), finish-small short j s, l)

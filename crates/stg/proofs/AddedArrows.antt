@@ -60,4 +60,12 @@ module _ (i p a : ℕ) (row : List (List ℕ)) (b : ℕ) (row′ : List (List �
 
     pub added-holds : sets row a (held i (p ∷ qs)) ≡ sets row′ b (held i qs)
     added-holds =
-        rw (into-more, map-hold (arrowsInto i (p ∷ [])) (arrowsInto i qs), sets-append row a (held i (p ∷ [])) (held i qs), length-map (arrowsInto i (p ∷ [])) hold, ← h .counts, ← h .holds)
+        rw (
+          into-more,
+          map-hold (arrowsInto i (p ∷ [])) (arrowsInto i qs),
+          sets-append row a (held i (p ∷ [])) (held i qs),
+          length-map
+              (arrowsInto i (p ∷ [])) hold,
+          ← h .counts,
+          ← h .holds,
+        )

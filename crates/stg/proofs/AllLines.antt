@@ -53,6 +53,7 @@ module _ (text : List ℕ) (ts : List ℕ) (ar : List (List ℕ)) (ts′ : List 
     unfolding Leaves
     closing-refused refusal q = to-close (check.Refused refusal) q
 
-    pub closing-sound : r ≡ check.Sound → Among 1 256 n → Leaves ts ar (taskLines 1 n (lines (drop e text))) ts′ ar′ (counts.Read (record { subtasks = n; arrows = b }))
+    pub closing-sound : r ≡ check.Sound → Among 1 256 n
+        → Leaves ts ar (taskLines 1 n (lines (drop e text))) ts′ ar′ (counts.Read (record { subtasks = n; arrows = b }))
     unfolding Leaves
     closing-sound q size = (to-close check.Sound q ∙ rw (add-zero n, add-zero b), size)

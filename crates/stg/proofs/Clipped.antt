@@ -105,12 +105,14 @@ module _ (us : List ℕ) (few : length us ≤ 256) (bs : List (List ℕ)) where
 
     checked-held : (r : Check) → IsCheck (timeAndArrowRows us (map hold bs)) r → IsCheck (timeAndArrowRows us bs) r
     unfolding IsCheck timeAndArrowRows
-    checked-held check.Sound x = accepted-tail (timeRows us) _ (sizeRows bs ++ arrowRows us bs) (λ y. accepted-tail (sizeRows bs) _ _ arrows-accepted (rw same-size at y)) x
+    checked-held check.Sound x =
+        accepted-tail (timeRows us) _ (sizeRows bs ++ arrowRows us bs) (λ y. accepted-tail (sizeRows bs) _ _ arrows-accepted (rw same-size at y)) x
     checked-held (check.Refused r) x =
         refused-tail (timeRows us) _ (sizeRows bs ++ arrowRows us bs) r (λ y. refused-tail (sizeRows bs) _ _ r (arrows-refused r) (rw same-size at y)) x
 
 -- neither 3 nor 4
-pub accepted-first-rows : (us : List ℕ) (bs : List (List ℕ)) → Accepted (timeAndArrowRows us bs) → (2048 < length bs → ⊥) × (SomeArrow bs (NamesOutside us bs) → ⊥)
+pub accepted-first-rows : (us : List ℕ) (bs : List (List ℕ)) → Accepted (timeAndArrowRows us bs)
+    → (2048 < length bs → ⊥) × (SomeArrow bs (NamesOutside us bs) → ⊥)
 unfolding timeAndArrowRows timeRows sizeRows arrowRows holdsOf
 accepted-first-rows us bs x = (none-holds 3 (timeAndArrowRows us bs) x, none-holds 4 (timeAndArrowRows us bs) x)
 

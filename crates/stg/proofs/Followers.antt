@@ -28,7 +28,8 @@ onto-some : (b : ℕ) (ls : List (List ℕ)) → none (onto b ls) ≡ false
 onto-some b [] = refl
 onto-some b (l ∷ ls) = refl
 
-blank-step : (b : ℕ) (l : List ℕ) (t u : Bool) → isBlank b ≡ t → begins (λ x. not (isBlank x)) l ≡ u → allPass isBlank l ≡ none (fields l) → allPass isBlank (b ∷ l) ≡ none (fields (b ∷ l))
+blank-step : (b : ℕ) (l : List ℕ) (t u : Bool) → isBlank b ≡ t → begins (λ x. not (isBlank x)) l ≡ u → allPass isBlank l ≡ none (fields l)
+    → allPass isBlank (b ∷ l) ≡ none (fields (b ∷ l))
 unfolding allPass fields
 blank-step b l true u e f h = rw e h
 blank-step b l false true e f h = rw (e, f) (sym (onto-some b (fields l)))
@@ -80,7 +81,12 @@ module _ (text : List ℕ) (at : ℕ) (h : at < length text) where
     pub follower-blank : (e : ℕ) → Ended text at e → Follower text at e
     unfolding mayFollow numbers
     follower-blank e q =
-        record { may = rw (blank-line (line (drop at text)), no-fields (fields (line (drop at text))) (q .none)); next = q .next; inside = q .inside; on = q .on h }
+        record {
+          may = rw (blank-line (line (drop at text)), no-fields (fields (line (drop at text))) (q .none));
+          next = q .next;
+          inside = q .inside;
+          on = q .on h;
+        }
 
   pub trailer-more : (e : ℕ) → Follower text at e → trailer (lines (drop at text)) ≡ trailer (lines (drop e text))
   unfolding trailer

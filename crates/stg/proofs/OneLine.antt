@@ -10,7 +10,8 @@ use lib.ListN.{length, getD, drop}
 use lib.Seq.{drop-cons}
 use Rattle.terms.specs.Texts.{allPass, lines, proper, numbers}
 use Rattle.terms.specs.Rows.{refusalOf}
-use Rattle.terms.specs.Readings.{Reading, refuse, lineAtHand, linesAfter, isSize, isFirst, isShape, isTask, isEntryDummy, isExitDummy, predecessorsIn, trailer, exitLine, taskLines, entryLine, readLines}
+use Rattle.terms.specs.Readings.{Reading, refuse, lineAtHand, linesAfter, isSize, isFirst, isShape, isTask, isEntryDummy, isExitDummy, predecessorsIn}
+use Rattle.terms.specs.Readings.{trailer, exitLine, taskLines, entryLine, readLines}
 use Rattle.terms.specs.declared.Refusal.{Refusal}
 use Rattle.text.specs.Rest.{line, later}
 use Rattle.text.proofs.Standing.{Ended, Passed}
@@ -173,10 +174,12 @@ module _ (text : List ℕ) (at i : ℕ) where
           }
 
 -- what a reply that is known tells: of the predecessors, of a task's line
-pub preceded : (text : List ℕ) (at i : ℕ) (row : List (List ℕ)) (a : ℕ) (row′ : List (List ℕ)) (r x : Predecessors) → r ≡ x → PredecessorsOf text at i row a row′ r → PredecessorsOf text at i row a row′ x
+pub preceded : (text : List ℕ) (at i : ℕ) (row : List (List ℕ)) (a : ℕ) (row′ : List (List ℕ)) (r x : Predecessors) → r ≡ x
+    → PredecessorsOf text at i row a row′ r → PredecessorsOf text at i row a row′ x
 preceded text at i row a row′ r x e h = rw e at h
 
-pub tasked : (text : List ℕ) (at i : ℕ) (row : List (List ℕ)) (a : ℕ) (row′ : List (List ℕ)) (r x : Task) → r ≡ x → TaskOf text at i row a row′ r → TaskOf text at i row a row′ x
+pub tasked : (text : List ℕ) (at i : ℕ) (row : List (List ℕ)) (a : ℕ) (row′ : List (List ℕ)) (r x : Task) → r ≡ x → TaskOf text at i row a row′ r
+    → TaskOf text at i row a row′ x
 tasked text at i row a row′ r x e h = rw e at h
 
 -- ---- a dummy's line
@@ -197,7 +200,8 @@ exit-line i s = rw (top-line s, rest-line s)
 pub dummy-bad : (i : ℕ) (l : List ℕ) → isTask i l ≡ false → (r : Reading) → dummy i l r ≡ refuse (refusalOf 22)
 dummy-bad i l e r = rw e
 
-module _ {text : List ℕ} {at i : ℕ} {row : List (List ℕ)} {a t : ℕ} {below : Bool} {b e : ℕ} {row′ : List (List ℕ)} (h : TaskIs text at i row a t below b e row′) where
+module _ {text : List ℕ} {at i : ℕ} {row : List (List ℕ)} {a t : ℕ} {below : Bool} {b e : ℕ} {row′ : List (List ℕ)}
+    (h : TaskIs text at i row a t below b e row′) where
   is-dummy : isExitDummy i (line (drop at text)) ≡ (eqb t 0 && below)
   unfolding isExitDummy
   is-dummy = rw (h .time, h .gives .each)

@@ -75,7 +75,8 @@ record Got (reading : Reading) (ts : List ℕ) (ar : List (List ℕ)) (ts′ : L
   pub n-is : n ≡ length us
   pub a-is : a ≡ length bs
 
-got-graph : (reading : Reading) (ts : List ℕ) (ar : List (List ℕ)) (ts′ : List ℕ) (ar′ : List (List ℕ)) (n a : ℕ) → outcome ts ar 0 0 reading ≡ Rows ts′ ar′ n a → Got reading ts ar ts′ ar′ n a
+got-graph : (reading : Reading) (ts : List ℕ) (ar : List (List ℕ)) (ts′ : List ℕ) (ar′ : List (List ℕ)) (n a : ℕ)
+    → outcome ts ar 0 0 reading ≡ Rows ts′ ar′ n a → Got reading ts ar ts′ ar′ n a
 got-graph (refuse k) ts ar ts′ ar′ n a e = absurd (let z : _≡_ {A = ℕ} 0 1 = cc in omega arith)
 got-graph (graph us bs) ts ar ts′ ar′ n a e =
     let t : 0 + length us ≡ n = cc in
@@ -107,7 +108,8 @@ laid xs row h = rw (sets-eq xs row 0 (omega (arith, h))) (take-at xs (drop (0 + 
 pairs-of : (reading : Reading) (us : List ℕ) (bs : List (List ℕ)) → reading ≡ graph us bs → PairsIn reading → AllPairs bs
 pairs-of reading us bs e h = rw e at h
 
-module _ (text ts : List ℕ) (ar : List (List ℕ)) (ts′ : List ℕ) (ar′ : List (List ℕ)) (n a : ℕ) (wide : 256 ≤ length ts) (long : 2048 ≤ length ar) (high : n ≤ 256)
+module _ (text ts : List ℕ) (ar : List (List ℕ)) (ts′ : List ℕ) (ar′ : List (List ℕ)) (n a : ℕ) (wide : 256 ≤ length ts) (long : 2048 ≤ length ar)
+    (high : n ≤ 256)
     (g : Got (readLines (lines text)) ts ar ts′ ar′ n a) where
   few : length (g .us) ≤ 256
   few = omega (arith, g .n-is)
@@ -164,7 +166,8 @@ module _ (text ts : List ℕ) (ar : List (List ℕ)) (ts′ : List ℕ) (ar′ :
 
       pub told-read : r ≡ check.Sound → TellsOf (readText (length ts) (length ar) text) ts′ ar′ (counts.Read size)
       unfolding IsCheck
-      told-read e = rw is (begins text ts ar ts′ ar′ (size .subtasks) (size .arrows) (fit .0) (fit .1) (sized .high) got size refl refl (tells-check check.Sound e))
+      told-read e =
+          rw is (begins text ts ar ts′ ar′ (size .subtasks) (size .arrows) (fit .0) (fit .1) (sized .high) got size refl refl (tells-check check.Sound e))
 
       pub told-check : (refusal : Refusal) → r ≡ check.Refused refusal → IsRefusalOf (readText (length ts) (length ar) text) refusal
       unfolding IsCheck
@@ -173,7 +176,8 @@ module _ (text ts : List ℕ) (ar : List (List ℕ)) (ts′ : List ℕ) (ar′ :
 -- ---- the reply
 
 module _ (L M : ℕ) (ts : List ℕ) (ar : List (List ℕ)) (lt : length ts ≡ L) (la : length ar ≡ M) (ts′ : List ℕ) (ar′ : List (List ℕ)) where
-  replies : (reading : Reading) (r : Counts) → TellsOf reading ts ar r → ClearedPast (keptBy r .subtasks) ts ts′ (keptBy r .arrows) ar ar′ → IsReplyTo reading L M ts′ ar′ r
+  replies : (reading : Reading) (r : Counts) → TellsOf reading ts ar r → ClearedPast (keptBy r .subtasks) ts ts′ (keptBy r .arrows) ar ar′
+      → IsReplyTo reading L M ts′ ar′ r
   unfolding IsReplyTo
   replies (refuse k) (counts.Read size) x c = absurd x
   replies (refuse k) (counts.Refused refusal) x c = (x, record { timesHeld = c .timesPast ∙ rw lt; arrowsHeld = c .arrowsPast ∙ rw la })
@@ -188,5 +192,6 @@ module _ (L M : ℕ) (ts : List ℕ) (ar : List (List ℕ)) (lt : length ts ≡ 
     },
   )
 
-  pub reply : (text : List ℕ) (r : Counts) (kept : GraphSize) → kept ≡ keptBy r → TellsOf (readText L M text) ts ar r → ClearedPast (kept .subtasks) ts ts′ (kept .arrows) ar ar′ → IsRead L M text ts′ ar′ r
+  pub reply : (text : List ℕ) (r : Counts) (kept : GraphSize) → kept ≡ keptBy r → TellsOf (readText L M text) ts ar r
+      → ClearedPast (kept .subtasks) ts ts′ (kept .arrows) ar ar′ → IsRead L M text ts′ ar′ r
   reply text r kept e x c = replies (readText L M text) r x (rw e at c)

@@ -66,8 +66,10 @@ passing-none text at i row a h f =
       few = f;
     }
 
-module _ {text : List ℕ} {at i : ℕ} {row : List (List ℕ)} {a here k : ℕ} {below : Bool} {b : ℕ} {row′ : List (List ℕ)} (o : Passing text at i row a here k below b row′) where
-  pub passing-more : {p e : ℕ} {still : Bool} {c : ℕ} {row″ : List (List ℕ)} → Passed text here p e → still ≡ (below && ltb p i) → Added i (p ∷ []) b row′ c row″
+module _ {text : List ℕ} {at i : ℕ} {row : List (List ℕ)} {a here k : ℕ} {below : Bool} {b : ℕ} {row′ : List (List ℕ)}
+    (o : Passing text at i row a here k below b row′) where
+  pub passing-more : {p e : ℕ} {still : Bool} {c : ℕ} {row″ : List (List ℕ)} → Passed text here p e → still ≡ (below && ltb p i)
+      → Added i (p ∷ []) b row′ c row″
       → Passing text at i row a e (k + 1) still c row″
   passing-more {p} {e} {still} {c} {row″} q s d =
       record {

@@ -22,7 +22,8 @@ rows : (ts ts′ : List ℕ) (ar ar′ : List (List ℕ)) (j j′ a a′ : ℕ) 
 rows ts ts′ ar ar′ j j′ a a′ p q r s = cc
 
 -- one subtask's time and arrows
-outcome-join : (ts : List ℕ) (ar : List (List ℕ)) (j a t : ℕ) (bs : List (List ℕ)) (r : Reading) → outcome ts ar j a (withTask t bs r) ≡ outcome (set ts j t) (sets ar a (map hold bs)) (j + 1) (a + length bs) r
+outcome-join : (ts : List ℕ) (ar : List (List ℕ)) (j a t : ℕ) (bs : List (List ℕ)) (r : Reading)
+    → outcome ts ar j a (withTask t bs r) ≡ outcome (set ts j t) (sets ar a (map hold bs)) (j + 1) (a + length bs) r
 unfolding withTask
 outcome-join ts ar j a t bs (refuse k) = refl
 outcome-join ts ar j a t bs (graph us cs) =
@@ -34,7 +35,10 @@ outcome-join ts ar j a t bs (graph us cs) =
 
 module _ (text : List ℕ) (at j : ℕ) where
   -- a subtask's line
-  task-line : (k : ℕ) → taskLines (j + 1) (suc k) (lines (drop at text)) ≡ need (isTask (j + 1) (line (drop at text))) 22 (need (leb (timeIn (line (drop at text))) 65535) 24 (withTask (timeIn (line (drop at text))) (arrowsInto (j + 1) (predecessorsIn (line (drop at text)))) (taskLines (j + 1 + 1) k (later (drop at text)))))
+  task-line : (k : ℕ)
+      → taskLines (j + 1) (suc k) (lines (drop at text)) ≡ need (isTask (j + 1) (line (drop at text))) 22
+      (need (leb (timeIn (line (drop at text))) 65535) 24
+      (withTask (timeIn (line (drop at text))) (arrowsInto (j + 1) (predecessorsIn (line (drop at text)))) (taskLines (j + 1 + 1) k (later (drop at text)))))
   unfolding taskLines
   task-line k = rw (top-line (drop at text), rest-line (drop at text))
 
@@ -45,7 +49,9 @@ module _ (text : List ℕ) (at j : ℕ) where
     pub subtask-long : 65535 < t → (k : ℕ) → taskLines (j + 1) (suc k) (lines (drop at text)) ≡ refuse (refusalOf 24)
     subtask-long l k = task-line k ∙ rw (h .shaped, h .time, lt-leb t 65535 l)
 
-    task-joins : t ≤ 65535 → (k : ℕ) → taskLines (j + 1) (suc k) (lines (drop at text)) ≡ withTask t (arrowsInto (j + 1) (predecessorsIn (line (drop at text)))) (taskLines (j + 1 + 1) k (lines (drop e text)))
+    task-joins : t ≤ 65535 → (k : ℕ)
+        → taskLines (j + 1) (suc k) (lines (drop at text)) ≡ withTask t (arrowsInto (j + 1) (predecessorsIn (line (drop at text))))
+        (taskLines (j + 1 + 1) k (lines (drop e text)))
     task-joins l k = task-line k ∙ rw (h .shaped, h .time, le-leb t 65535 l, h .gives .next)
 
     pub subtask-is : (ts : List ℕ) (u : ℕ) → t ≤ 65535 → u ≡ t → OneSubtask text at j a ts ar b e (set ts j u) ar′
@@ -77,14 +83,17 @@ left-none text at n ts ar h =
     let z : n - 0 ≡ n = omega arith in
     record { does = rw z; inside = h; few = omega arith; upto = omega arith }
 
-module _ {text : List ℕ} {at n : ℕ} {ts : List ℕ} {ar : List (List ℕ)} {here a j : ℕ} {ts′ : List ℕ} {ar′ : List (List ℕ)} (g : SubtasksLeft text at n ts ar here a j ts′ ar′) where
+module _ {text : List ℕ} {at n : ℕ} {ts : List ℕ} {ar : List (List ℕ)} {here a j : ℕ} {ts′ : List ℕ} {ar′ : List (List ℕ)}
+    (g : SubtasksLeft text at n ts ar here a j ts′ ar′) where
   one-left : j < n → n - j ≡ suc (n - (j + 1))
   one-left h = omega arith
 
-  pub left-bad : (c : Refusal) → j < n → ((k : ℕ) → taskLines (j + 1) (suc k) (lines (drop here text)) ≡ refuse c) → outcome ts ar 0 0 (taskLines 1 n (lines (drop at text))) ≡ Fails c
+  pub left-bad : (c : Refusal) → j < n → ((k : ℕ) → taskLines (j + 1) (suc k) (lines (drop here text)) ≡ refuse c)
+      → outcome ts ar 0 0 (taskLines 1 n (lines (drop at text))) ≡ Fails c
   left-bad c h f = g .does ∙ rw (one-left h, f)
 
-  pub left-more : {b e : ℕ} {ts″ : List ℕ} {ar″ : List (List ℕ)} → j < n → OneSubtask text here j a ts′ ar′ b e ts″ ar″ → SubtasksLeft text at n ts ar e b (j + 1) ts″ ar″
+  pub left-more : {b e : ℕ} {ts″ : List ℕ} {ar″ : List (List ℕ)} → j < n → OneSubtask text here j a ts′ ar′ b e ts″ ar″
+      → SubtasksLeft text at n ts ar e b (j + 1) ts″ ar″
   left-more h o =
       record {
         does = g .does ∙ ap (λ (k : ℕ). outcome ts′ ar′ j a (taskLines (j + 1) k (lines (drop here text)))) (one-left h) ∙ o .does (n - (j + 1));

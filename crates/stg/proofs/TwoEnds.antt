@@ -4,7 +4,8 @@ use mathlib.Core.List.{List, [], _∷_, _++_}
 use mathlib.Core.Bool.{Bool, true, false, cond}
 use Prim.Native.Nat.{ℕ, zero, suc, _+_}
 use lib.Dec.{eqb, leb}
-use Rattle.terms.specs.Readings.{Reading, refuse, graph, need, lineAtHand, linesAfter, isTask, isExitDummy, isEntryDummy, isFirst, mayFollow, timeIn, predecessorsIn, sizeIn, arrowsInto, withTask, trailer, exitLine, taskLines, entryLine, readLines}
+use Rattle.terms.specs.Readings.{Reading, refuse, graph, need, lineAtHand, linesAfter, isTask, isExitDummy, isEntryDummy, isFirst, mayFollow, timeIn}
+use Rattle.terms.specs.Readings.{predecessorsIn, sizeIn, arrowsInto, withTask, trailer, exitLine, taskLines, entryLine, readLines}
 use Rattle.stg.specs.RowsRead.{AllPairs}
 
 pairs-append : (xs ys : List (List ℕ)) → AllPairs xs → AllPairs ys → AllPairs (xs ++ ys)

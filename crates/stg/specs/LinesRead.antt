@@ -8,7 +8,8 @@ use lib.ListN.{length, getD, drop}
 use lib.Seq.{sets}
 use Rattle.terms.specs.Graphs.{Among}
 use Rattle.terms.specs.Texts.{allPass, lines, proper, numbers}
-use Rattle.terms.specs.Readings.{Reading, refuse, graph, need, readLines, entryLine, taskLines, exitLine, isTask, isExitDummy, timeIn, predecessorsIn, mayFollow, arrowsInto}
+use Rattle.terms.specs.Readings.{Reading, refuse, graph, need, readLines, entryLine, taskLines, exitLine, isTask, isExitDummy, timeIn, predecessorsIn}
+use Rattle.terms.specs.Readings.{mayFollow, arrowsInto}
 use Rattle.terms.specs.declared.Refusal.{Refusal}
 use Rattle.terms.specs.declared.Check.{Check}
 use Rattle.terms.specs.declared.Check.the-variants as check
@@ -95,7 +96,8 @@ outcome ts ar j a (graph us bs) = Rows (sets ts j us) (sets ar a (map hold bs)) 
 
 -- one line passed: the place after it, and how many arrows there are then
 pub record OneSubtask (text : List ℕ) (at j a : ℕ) (ts : List ℕ) (ar : List (List ℕ)) (b e : ℕ) (ts′ : List ℕ) (ar′ : List (List ℕ)) : Type 0 where
-  pub does : (k : ℕ) → outcome ts ar j a (taskLines (j + 1) (suc k) (lines (drop at text))) ≡ outcome ts′ ar′ (j + 1) b (taskLines (j + 1 + 1) k (lines (drop e text)))
+  pub does : (k : ℕ)
+      → outcome ts ar j a (taskLines (j + 1) (suc k) (lines (drop at text))) ≡ outcome ts′ ar′ (j + 1) b (taskLines (j + 1 + 1) k (lines (drop e text)))
   pub inside : e ≤ length text
   pub few : b ≤ e
 

@@ -17,7 +17,8 @@ Kept arrows arrows′ = (b : ℕ) → b < length arrows′ → (a : ℕ) × (a <
 
 unfoldable decKept : (arrows arrows′ : List (List ℕ)) → Dec (Kept arrows arrows′)
 unfolding decAll decSome Dec·and ℕ-discrete
-decKept arrows arrows′ = decAll (length arrows′) (λ b. (a : ℕ) × (a < length arrows) × ((fromOf arrows a ≡ fromOf arrows′ b) × (toOf arrows a ≡ toOf arrows′ b)))
+decKept arrows arrows′ =
+    decAll (length arrows′) (λ b. (a : ℕ) × (a < length arrows) × ((fromOf arrows a ≡ fromOf arrows′ b) × (toOf arrows a ≡ toOf arrows′ b)))
     (λ b. decSome (length arrows) (λ a. (fromOf arrows a ≡ fromOf arrows′ b) × (toOf arrows a ≡ toOf arrows′ b))
     (λ a. Dec·and (ℕ-discrete (fromOf arrows a) (fromOf arrows′ b)) (ℕ-discrete (toOf arrows a) (toOf arrows′ b))))
 

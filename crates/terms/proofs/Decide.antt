@@ -145,7 +145,8 @@ decFree times plan p t = via
     (decEach (length times) (λ j. ¬ ((processorOf plan j ≡ p) × RunsAt times plan j t))
     (λ j. Dec·not (Dec·and (ℕ-discrete (processorOf plan j) p) (decRuns times plan j t))))
 
-unfoldable pub decServed : (times : List ℕ) (arrows : List (List ℕ)) (plan : List Entry) (j t : ℕ) → Dec ((i : ℕ) → Precedes arrows i j → Placed plan i × (endOf times plan i ≤ t))
+unfoldable pub decServed : (times : List ℕ) (arrows : List (List ℕ)) (plan : List Entry) (j t : ℕ)
+    → Dec ((i : ℕ) → Precedes arrows i j → Placed plan i × (endOf times plan i ≤ t))
 unfolding via decAll decWhen Dec·and decLe ℕ-discrete
 decServed times arrows plan j t = via
     (λ f i w. rw (w .begins) at (f (w .place) (w .inside) (w .arrives)))
@@ -171,8 +172,10 @@ decIdle times arrows M plan t = via
       inRange = record { low = omega arith; high = omega (arith, x .1 .1) };
       free = x .1 .2;
     })
-    (λ d. let e : suc (d .processor - 1) ≡ d .processor = omega (arith, d .inRange .low) in
-    (record { subtask = d .subtask; isSubtask = d .isSubtask; isSo = d .ready }, (d .processor - 1, omega (arith, d .inRange .low, d .inRange .high), rw e (d .free))))
+    (λ d. let e : suc (d .processor - 1) ≡ d .processor = omega (arith, d .inRange .low) in (
+      record { subtask = d .subtask; isSubtask = d .isSubtask; isSo = d .ready },
+      (d .processor - 1, omega (arith, d .inRange .low, d .inRange .high), rw e (d .free)),
+    ))
     (Dec·and (decSomeSubtask times (λ j. ReadyAt times arrows plan j t) (λ j. decReady times arrows plan j t))
     (decSome M (λ p. FreeAt times plan (suc p) t) (λ p. decFree times plan (suc p) t)))
 

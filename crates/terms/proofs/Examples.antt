@@ -22,8 +22,10 @@ use Rattle.terms.specs.declared.Verdict.{Verdict}
 use Rattle.terms.specs.declared.Verdict.the-variants.{Fits, Late}
 use Rattle.terms.specs.declared.Outcome.the-variants.{Judged}
 use Rattle.terms.specs.declared.PlanEnd.the-variants.{Ends, Refused}
-use Rattle.terms.proofs.Decide.{isYes, by-yes, via, decWhen, decOrNot, seek, decSome, decAll, decEach, decAmong, decSomeSubtask, decSomeArrow, decRepeats, decOrder, decRuns, decFree, decServed, decReady, decIdle, decStartsEarly, decShare}
-use Rattle.terms.proofs.Tables.{Accepts, Refuses, accepts, refuses, then, decFinishes, no-cycle, longest-by, graphDecided, onDecided, verdictDecided, listDecided, decIdleSometime, checkDecided, stepped, after, decEnds, decBegun}
+use Rattle.terms.proofs.Decide.{isYes, by-yes, via, decWhen, decOrNot, seek, decSome, decAll, decEach, decAmong, decSomeSubtask, decSomeArrow}
+use Rattle.terms.proofs.Decide.{decRepeats, decOrder, decRuns, decFree, decServed, decReady, decIdle, decStartsEarly, decShare}
+use Rattle.terms.proofs.Tables.{Accepts, Refuses, accepts, refuses, then, decFinishes, no-cycle, longest-by, graphDecided, onDecided}
+use Rattle.terms.proofs.Tables.{verdictDecided, listDecided, decIdleSometime, checkDecided, stepped, after, decEnds, decBegun}
 
 -- ---- graph G
 
@@ -112,7 +114,8 @@ module _ (times : List ℕ) (arrows : List (List ℕ)) (finish : List ℕ) (P : 
   )
 
   checked-ends : (M K E : ℕ) (plan : List Entry) (f : Finished) (b : T (isYes (decBegun times plan K)))
-      → Accepts (checkDecided times arrows M plan K (acyclic f) (by-yes (decBegun times plan K) b)) → T (isYes (decEnds times plan E)) → IsChecked times arrows M plan (Ends E)
+      → Accepts (checkDecided times arrows M plan K (acyclic f) (by-yes (decBegun times plan K) b)) → T (isYes (decEnds times plan E)) → IsChecked
+      times arrows M plan (Ends E)
   unfolding IsChecked
   checked-ends M K E plan f b a e = (
     accepts (checkDecided times arrows M plan K (acyclic f) (by-yes (decBegun times plan K) b)) a,
@@ -125,11 +128,13 @@ module _ (times : List ℕ) (arrows : List (List ℕ)) (finish : List ℕ) (P : 
   checked-refused M K k plan f b r = refuses k (checkDecided times arrows M plan K (acyclic f) (by-yes (decBegun times plan K) b)) r
 
   -- the rule has made the list plan after k steps
-  list-plan-ends : (order : List ℕ) (M k E : ℕ) (f : Finished) → Accepts (listDecided times arrows M order (length (replicate (length times) notPlaced)) (acyclic f))
+  list-plan-ends : (order : List ℕ) (M k E : ℕ) (f : Finished)
+      → Accepts (listDecided times arrows M order (length (replicate (length times) notPlaced)) (acyclic f))
       → take (length times) (after times arrows order M k .plan) ≡ after times arrows order M k .plan
       → drop (length times) (after times arrows order M k .plan) ≡ drop (length times) (replicate (length times) notPlaced)
       → (b : T (isYes (decBegun times (after times arrows order M k .plan) E)))
-      → Accepts (checkDecided times arrows M (after times arrows order M k .plan) E (acyclic f) (by-yes (decBegun times (after times arrows order M k .plan) E) b))
+      → Accepts (checkDecided times arrows M (after times arrows order M k .plan) E (acyclic f)
+      (by-yes (decBegun times (after times arrows order M k .plan) E) b))
       → T (isYes (decEnds times (after times arrows order M k .plan) E))
       → ListPlanEnds times arrows order M E
   unfolding IsListed

@@ -11,9 +11,11 @@ use Rattle.terms.specs.Graphs.{Among, IsSubtask, timeOf, fromOf, toOf, P
 use Rattle.terms.specs.Paths.{PathTo, alone, along, weight, IsLongest}
 use Rattle.terms.specs.Plans.{notPlaced, Placed, processorOf, startOf, endOf, EndsAt, ReadyAt, FreeAt, IdleAt}
 use Rattle.terms.specs.ListRule.{Goes, put, ByRule, begin, goes, tick}
-use Rattle.terms.specs.Refusals.{countRows, timeRows, subtaskRows, sizeRows, arrowRows, graphRows, processorRows, onRows, deadlineRows, orderRows, planRows, verdictRows, listRows, checkRows}
+use Rattle.terms.specs.Refusals.{countRows, timeRows, subtaskRows, sizeRows, arrowRows, graphRows, processorRows, onRows, deadlineRows}
+use Rattle.terms.specs.Refusals.{orderRows, planRows, verdictRows, listRows, checkRows}
 use Rattle.terms.specs.declared.Entry.{Entry}
-use Rattle.terms.proofs.Decide.{via, Least, seek, decSome, decAll, decEach, decAmong, decSomeSubtask, decSomeArrow, decRepeats, decOrder, decReady, decFree, decIdle, decStartsEarly, decShare}
+use Rattle.terms.proofs.Decide.{via, Least, seek, decSome, decAll, decEach, decAmong, decSomeSubtask, decSomeArrow, decRepeats, decOrder}
+use Rattle.terms.proofs.Decide.{decReady, decFree, decIdle, decStartsEarly, decShare}
 
 -- ---- the answer of a table each of whose rows is decided
 
@@ -113,11 +115,13 @@ unfoldable pub onDecided : (times : List ℕ) (arrows : List (List ℕ)) (M : �
 unfolding onRows processorRows graphDecided then decAmong Dec·not
 onDecided times arrows M cycle = then (graphDecided times arrows cycle) (and (Dec·not (decAmong _ _ _)) none)
 
-unfoldable pub verdictDecided : (times : List ℕ) (arrows : List (List ℕ)) (M D : ℕ) → Dec ((j : ℕ) × LeadsTo arrows j j) → Decided (verdictRows times arrows M D)
+unfoldable pub verdictDecided : (times : List ℕ) (arrows : List (List ℕ)) (M D : ℕ) → Dec ((j : ℕ) × LeadsTo arrows j j)
+    → Decided (verdictRows times arrows M D)
 unfolding verdictRows deadlineRows onDecided then decAmong Dec·not
 verdictDecided times arrows M D cycle = then (onDecided times arrows M cycle) (and (Dec·not (decAmong _ _ _)) none)
 
-unfoldable pub listDecided : (times : List ℕ) (arrows : List (List ℕ)) (M : ℕ) (order : List ℕ) (room : ℕ) → Dec ((j : ℕ) × LeadsTo arrows j j) → Decided (listRows times arrows M order room)
+unfoldable pub listDecided : (times : List ℕ) (arrows : List (List ℕ)) (M : ℕ) (order : List ℕ) (room : ℕ) → Dec ((j : ℕ) × LeadsTo arrows j j)
+    → Decided (listRows times arrows M order room)
 unfolding listRows orderRows onDecided then decOrder decLt Dec·not
 listDecided times arrows M order room cycle = then (onDecided times arrows M cycle) (and (Dec·not (decOrder _ _)) (and (decLt _ _) none))
 
@@ -161,7 +165,8 @@ module _ (times : List ℕ) (arrows : List (List ℕ)) (order : List ℕ) (M : �
   abbrev pub LowestFree : List Entry → ℕ → Type 0
   LowestFree plan t = Least M (λ p. FreeAt times plan (suc p) t)
 
-  pub one-goes : (plan : List Entry) (t : ℕ) (x : FirstReady plan t) (p : LowestFree plan t) → Goes times arrows order M plan t (getD order (x .place) 0) (suc (p .place))
+  pub one-goes : (plan : List Entry) (t : ℕ) (x : FirstReady plan t) (p : LowestFree plan t)
+      → Goes times arrows order M plan t (getD order (x .place) 0) (suc (p .place))
   one-goes plan t x p = record {
     place = x .place;
     inside = x .inside;
@@ -214,4 +219,5 @@ decEnds times plan E = via
 -- every subtask is placed, and none starts after K
 unfoldable pub decBegun : (times : List ℕ) (plan : List Entry) (K : ℕ) → Dec ((j : ℕ) → IsSubtask times j → Placed plan j × (startOf plan j ≤ K))
 unfolding decEach Dec·and decLe
-decBegun times plan K = decEach (length times) (λ j. Placed plan j × (startOf plan j ≤ K)) (λ j. Dec·and (decLe 1 (processorOf plan j)) (decLe (startOf plan j) K))
+decBegun times plan K =
+    decEach (length times) (λ j. Placed plan j × (startOf plan j ≤ K)) (λ j. Dec·and (decLe 1 (processorOf plan j)) (decLe (startOf plan j) K))

@@ -4,7 +4,8 @@ use mathlib.Core.List.{List, [], _∷_, _++_}
 use Prim.Native.Nat.{ℕ}
 use Rattle.terms.specs.Texts.{allPass, lines, fields, valueFrom, proper, numbers, blanks, digits, nextField}
 use Rattle.terms.specs.Rows.{refusalOf}
-use Rattle.terms.specs.Readings.{Reading, refuse, graph, isSize, isFirst, isShape, isTask, isEntryDummy, isExitDummy, mayFollow, arrowsInto, withTask, trailer, exitLine, taskLines, entryLine, readLines, readText}
+use Rattle.terms.specs.Readings.{Reading, refuse, graph, isSize, isFirst, isShape, isTask, isEntryDummy, isExitDummy, mayFollow, arrowsInto}
+use Rattle.terms.specs.Readings.{withTask, trailer, exitLine, taskLines, entryLine, readLines, readText}
 
 -- a text, read with room for 256 times and 2,048 arrows
 abbrev read : List ℕ → Reading
@@ -25,7 +26,9 @@ around middle = (49 ∷ 13 ∷ 10 ∷ 48 ∷ 32 ∷ 48 ∷ 32 ∷ 48 ∷ 13 ∷ 
 pub record WorkedTexts : Type 0 where
   pub bench : read frames ≡ graph (5 ∷ 5 ∷ []) []
   -- "2", "0 0 0", "1 5 0", "2 6 1 1", "3 0 1 2": subtask 2 waits for 1
-  pub oneArrow : read ((50 ∷ 10 ∷ 48 ∷ 32 ∷ 48 ∷ 32 ∷ 48 ∷ 10 ∷ 49 ∷ 32 ∷ 53 ∷ 32 ∷ 48 ∷ 10 ∷ []) ++ (50 ∷ 32 ∷ 54 ∷ 32 ∷ 49 ∷ 32 ∷ 49 ∷ 10 ∷ 51 ∷ 32 ∷ 48 ∷ 32 ∷ 49 ∷ 32 ∷ 50 ∷ []))
+  pub oneArrow : read
+      ((50 ∷ 10 ∷ 48 ∷ 32 ∷ 48 ∷ 32 ∷ 48 ∷ 10 ∷ 49 ∷ 32 ∷ 53 ∷ 32 ∷ 48 ∷ 10 ∷ []) ++
+      (50 ∷ 32 ∷ 54 ∷ 32 ∷ 49 ∷ 32 ∷ 49 ∷ 10 ∷ 51 ∷ 32 ∷ 48 ∷ 32 ∷ 49 ∷ 32 ∷ 50 ∷ []))
       ≡ graph (5 ∷ 6 ∷ []) ((1 ∷ 2 ∷ []) ∷ [])
   pub noRoom : readText 255 2048 frames ≡ refuse (refusalOf 11)
   pub empty : read [] ≡ refuse (refusalOf 21)
@@ -42,7 +45,8 @@ pub record WorkedTexts : Type 0 where
   -- "1 000000007 0": nine digits
   pub nineDigits : read (around (49 ∷ 32 ∷ 48 ∷ 48 ∷ 48 ∷ 48 ∷ 48 ∷ 48 ∷ 48 ∷ 48 ∷ 55 ∷ 32 ∷ 48 ∷ 10 ∷ [])) ≡ refuse (refusalOf 22)
   -- "1 7 0", "2 0 1 2" in the exit dummy's place: its predecessor is itself
-  pub ownPredecessor : read ((49 ∷ 10 ∷ 48 ∷ 32 ∷ 48 ∷ 32 ∷ 48 ∷ 10 ∷ 49 ∷ 32 ∷ 55 ∷ 32 ∷ 48 ∷ 10 ∷ []) ++ (50 ∷ 32 ∷ 48 ∷ 32 ∷ 49 ∷ 32 ∷ 50 ∷ [])) ≡ refuse (refusalOf 23)
+  pub ownPredecessor : read
+      ((49 ∷ 10 ∷ 48 ∷ 32 ∷ 48 ∷ 32 ∷ 48 ∷ 10 ∷ 49 ∷ 32 ∷ 55 ∷ 32 ∷ 48 ∷ 10 ∷ []) ++ (50 ∷ 32 ∷ 48 ∷ 32 ∷ 49 ∷ 32 ∷ 50 ∷ [])) ≡ refuse (refusalOf 23)
   -- "1 7 0" and a comment before the exit dummy
   pub commentInside : read (around (49 ∷ 32 ∷ 55 ∷ 32 ∷ 48 ∷ 10 ∷ 35 ∷ 10 ∷ [])) ≡ refuse (refusalOf 22)
   -- the next field of " \t12 3" is "12"

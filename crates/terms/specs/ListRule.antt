@@ -32,7 +32,8 @@ put plan j p t = set plan (j - 1) (at p t)
 -- What the rule has made with the clock at t = 0, 1, 2, ..: as long as a processor is free and a subtask is ready, one goes; only then the clock moves on.
 pub data ByRule (times : List ℕ) (arrows : List (List ℕ)) (order : List ℕ) (M : ℕ) : ℕ → List Entry → Type 0 where
   begin : ByRule times arrows order M 0 (replicate (length times) notPlaced)
-  goes : {t : ℕ} {plan : List Entry} → ByRule times arrows order M t plan → (j p : ℕ) → Goes times arrows order M plan t j p → ByRule times arrows order M t (put plan j p t)
+  goes : {t : ℕ} {plan : List Entry} → ByRule times arrows order M t plan → (j p : ℕ) → Goes times arrows order M plan t j p
+      → ByRule times arrows order M t (put plan j p t)
   tick : {t : ℕ} {plan : List Entry} → ByRule times arrows order M t plan → ¬ IdleAt times arrows M plan t → ByRule times arrows order M (suc t) plan
 
 -- the list plan: what the rule has made when every subtask is placed

@@ -62,12 +62,14 @@ unfolding lines later
 begins-feed [] e = false-true e
 begins-feed (b ∷ s) e = rw e
 
-whole-line : (b : ℕ) (s : List ℕ) → endsHere (b ∷ s) ≡ false → (lines s ≡ []) ⊎ (lines s ≡ line s ∷ later s) → (lines s ≡ [] → s ≡ []) → lines (b ∷ s) ≡ line (b ∷ s) ∷ later (b ∷ s)
+whole-line : (b : ℕ) (s : List ℕ) → endsHere (b ∷ s) ≡ false → (lines s ≡ []) ⊎ (lines s ≡ line s ∷ later s) → (lines s ≡ [] → s ≡ [])
+    → lines (b ∷ s) ≡ line (b ∷ s) ∷ later (b ∷ s)
 unfolding line later
 whole-line b s e (inl f) g = rw (lines-onto b s e, line-on b s e, later-on b s e, f, g f)
 whole-line b s e (inr f) g = rw (lines-onto b s e, line-on b s e, later-on b s e, f)
 
-split-line : (b : ℕ) (s : List ℕ) (t u : Bool) → isFeed b ≡ t → isReturn b s ≡ u → (lines s ≡ []) ⊎ (lines s ≡ line s ∷ later s) → (lines s ≡ [] → s ≡ []) → lines (b ∷ s) ≡ line (b ∷ s) ∷ later (b ∷ s)
+split-line : (b : ℕ) (s : List ℕ) (t u : Bool) → isFeed b ≡ t → isReturn b s ≡ u → (lines s ≡ []) ⊎ (lines s ≡ line s ∷ later s)
+    → (lines s ≡ [] → s ≡ []) → lines (b ∷ s) ≡ line (b ∷ s) ∷ later (b ∷ s)
 unfolding lines line later
 split-line b s true u e f g h = rw e
 split-line b s false true e f g h = rw (e, f) (begins-feed s (both (eqb b 13) (begins isFeed s) f .1))
@@ -84,7 +86,8 @@ lines-cons b (d ∷ s) = split-line b (d ∷ s) (isFeed b) (isReturn b (d ∷ s)
 
 -- ---- blanks before a field change nothing
 
-after-blank : (b : ℕ) (s : List ℕ) (t : Bool) → isBlank b ≡ t → fields (line s) ≡ fields (line (drop (blanks s) s)) → fields (line (b ∷ s)) ≡ fields (line (drop (blanks (b ∷ s)) (b ∷ s)))
+after-blank : (b : ℕ) (s : List ℕ) (t : Bool) → isBlank b ≡ t → fields (line s) ≡ fields (line (drop (blanks s) s))
+    → fields (line (b ∷ s)) ≡ fields (line (drop (blanks (b ∷ s)) (b ∷ s)))
 unfolding blanks fields line
 after-blank b s true e h = rw (blank-inside b s e, e) h
 after-blank b s false e h = rw e
@@ -134,7 +137,8 @@ unfolding line
 no-digit b s true e f = rw e
 no-digit b s false e f = rw (e, f)
 
-digit-or-not : (b : ℕ) (s : List ℕ) (t : Bool) → isDigit b ≡ t → Run s (digits s) (drop (length (digits s)) s) → Run (b ∷ s) (digits (b ∷ s)) (drop (length (digits (b ∷ s))) (b ∷ s))
+digit-or-not : (b : ℕ) (s : List ℕ) (t : Bool) → isDigit b ≡ t → Run s (digits s) (drop (length (digits s)) s)
+    → Run (b ∷ s) (digits (b ∷ s)) (drop (length (digits (b ∷ s))) (b ∷ s))
 unfolding digits allPass
 digit-or-not b s true e h =
     let f = digit-plain b s e .1 in
@@ -204,7 +208,8 @@ stray d x l e f g = strays-bad (fields (d ++ x ∷ l)) (strays-run d x l e f g)
 abbrev pub FieldOrSpoilt : List ℕ → List ℕ → Type 0
 FieldOrSpoilt d l = (fields (d ++ l) ≡ d ∷ fields l) ⊎ ((proper (d ++ l) ≡ false) × (proper l ≡ false))
 
-blank-or-not : (b : ℕ) (d : List ℕ) (x : ℕ) (l : List ℕ) (t : Bool) → isBlank x ≡ t → allPass isDigit (b ∷ d) ≡ true → isDigit x ≡ false → FieldOrSpoilt (b ∷ d) (x ∷ l)
+blank-or-not : (b : ℕ) (d : List ℕ) (x : ℕ) (l : List ℕ) (t : Bool) → isBlank x ≡ t → allPass isDigit (b ∷ d) ≡ true → isDigit x ≡ false
+    → FieldOrSpoilt (b ∷ d) (x ∷ l)
 unfolding allPass
 blank-or-not b d x l true f e g = inl (fields-run b d (x ∷ l) e (rw f))
 blank-or-not b d x l false f e g = inr (stray (b ∷ d) x l e f g, stray [] x l refl f g)

@@ -18,7 +18,8 @@ use Rattle.text.specs.Rest.{line, later}
 use Rattle.text.proofs.Standing.{Ended, Stands}
 use Rattle.text.proofs.Digits.{false-true}
 use Rattle.text.proofs.Places.{size-stop, blanks-within, digits-within, size-within}
-use Rattle.text.proofs.Lines.{fields-blanks, later-blanks, blanks-none, Run, run, FieldOrSpoilt, field-or-spoilt, line-off, spoilt, size-return, fields-none, proper-none, numbers-none, later-size, size-on}
+use Rattle.text.proofs.Lines.{fields-blanks, later-blanks, blanks-none, Run, run, FieldOrSpoilt, field-or-spoilt, line-off, spoilt}
+use Rattle.text.proofs.Lines.{size-return, fields-none, proper-none, numbers-none, later-size, size-on}
 
 -- each of the digits is one
 pub digits-all : (text : List ℕ) (start : ℕ) (d : List ℕ) → d ≡ digits (drop start text) → allPass isDigit d ≡ true
@@ -94,10 +95,13 @@ module _ (text : List ℕ) (at start : ℕ) (p : start ≡ at + blanks (drop at 
           next = later-start ∙ later-size (drop start text) ∙ rw (drop-drop (lineSize (drop start text)) start text);
           inside = size-within text start start-within;
           past = omega arith;
-          on = λ l. ⊎-elim (λ (x : start ≡ length text). omega arith) (λ (x : start < length text). let y = size-on text start x in omega arith) (eq-or-lt-of-le start-within);
+          on =
+              λ l. ⊎-elim (λ (x : start ≡ length text). omega arith) (λ (x : start < length text). let y = size-on text start x in omega arith)
+              (eq-or-lt-of-le start-within);
         }
 
-    ends-or-not : (b : ℕ) (s : List ℕ) (t : Bool) → endsHere (b ∷ s) ≡ t → drop start text ≡ b ∷ s → digits (b ∷ s) ≡ [] → Stands text at (noNumber start (b ∷ s))
+    ends-or-not : (b : ℕ) (s : List ℕ) (t : Bool) → endsHere (b ∷ s) ≡ t → drop start text ≡ b ∷ s → digits (b ∷ s) ≡ []
+        → Stands text at (noNumber start (b ∷ s))
     ends-or-not b s true e q z = rw e (rw q at (at-line-end (rw q (line-off b s e))))
     ends-or-not b s false e q z = rw e (proper-start ∙ rw q (spoilt b s (rw q at start-blanks) z e))
 

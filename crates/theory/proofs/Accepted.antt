@@ -9,7 +9,8 @@ use Rattle.terms.specs.Rows.{Accepted, RefusedBy}
 use Rattle.terms.specs.Graphs.{Among, IsSubtask, timeOf, fromOf, toOf, Precedes}
 use Rattle.terms.specs.Plans.{processorOf, startOf, endOf}
 use Rattle.terms.specs.ListRule.{IsOrder}
-use Rattle.terms.specs.Refusals.{countRows, timeRows, subtaskRows, sizeRows, arrowRows, graphRows, timeAndArrowRows, processorRows, onRows, deadlineRows, orderRows, planRows, verdictRows, listRows, checkRows}
+use Rattle.terms.specs.Refusals.{countRows, timeRows, subtaskRows, sizeRows, arrowRows, graphRows, timeAndArrowRows, processorRows, onRows}
+use Rattle.terms.specs.Refusals.{deadlineRows, orderRows, planRows, verdictRows, listRows, checkRows}
 use Rattle.terms.specs.declared.Entry.{Entry}
 use Rattle.terms.specs.declared.Refusal.{Refusal}
 use Rattle.terms.proofs.Decide.{decAmong, decOrder, undenied}
@@ -23,7 +24,8 @@ sound-graph times arrows a =
     let row : (k : ℕ) → ¬ holdsOf k (graphRows times arrows) = λ k. none-holds k (graphRows times arrows) a in
     record {
       count = undenied (decAmong 1 256 (length times)) (row 1);
-      positive = λ j s. by-cases (decLe 1 (timeOf times j)) (λ l. omega arith) (λ l. absurd (row 2 (record { subtask = j; isSubtask = s; isSo = omega arith })));
+      positive =
+          λ j s. by-cases (decLe 1 (timeOf times j)) (λ l. omega arith) (λ l. absurd (row 2 (record { subtask = j; isSubtask = s; isSo = omega arith })));
       few = by-cases (decLe (length arrows) 2048) (λ l. omega arith) (λ l. absurd (row 3 (omega arith)));
       named = λ p l. undenied (Dec·and (decAmong 1 (length times) (fromOf arrows p)) (decAmong 1 (length times) (toOf arrows p)))
           (λ h. row 4 (record { place = p; inside = l; isSo = h }));
@@ -45,7 +47,8 @@ accepted-graph times arrows g =
     done r7
 
 -- where 1 does not hold, 1 to 7 refuse as 2 to 7 do, which are the reader's, and accept as they do
-pub read-refused : (times : List ℕ) (arrows : List (List ℕ)) (r : Refusal) → Among 1 256 (length times) → RefusedBy (graphRows times arrows) r → RefusedBy (timeAndArrowRows times arrows) r
+pub read-refused : (times : List ℕ) (arrows : List (List ℕ)) (r : Refusal) → Among 1 256 (length times) → RefusedBy (graphRows times arrows) r
+    → RefusedBy (timeAndArrowRows times arrows) r
 unfolding graphRows subtaskRows countRows timeRows timeAndArrowRows Accepted
 read-refused times arrows r count x = refused-rest (countRows times) (timeAndArrowRows times arrows) r ((λ h. h count), tt) x
 
@@ -88,7 +91,9 @@ module _ (times : List ℕ) (arrows : List (List ℕ)) (M : ℕ) where
             processors = on .1;
             whole = undenied (ℕ-discrete (length plan) (length times)) (row 12);
             placed = λ j s. undenied (decAmong 1 M (processorOf plan j)) (λ h. row 13 (record { subtask = j; isSubtask = s; isSo = h }));
-            starts = λ j s. by-cases (decLe (startOf plan j) 16776960) (λ l. omega arith) (λ l. absurd (row 14 (record { subtask = j; isSubtask = s; isSo = omega arith })));
+            starts =
+                λ j s. by-cases (decLe (startOf plan j) 16776960) (λ l. omega arith)
+                (λ l. absurd (row 14 (record { subtask = j; isSubtask = s; isSo = omega arith })));
             ordered = λ i j w. by-cases (decLe (endOf times plan i) (startOf plan j)) (λ l. omega arith)
                 (λ l. absurd (row 15 (record { subtask = j; isSubtask = to-subtask (on .0) w; isSo = record { predecessor = i; precedes = w; early = omega arith } })));
             apart = λ i j t s q d e x y. row 16 (record {

@@ -64,7 +64,8 @@ accepted-both [] later x = (tt, x)
 accepted-both (row ∷ rows) later (n, x) = let both = accepted-both rows later x in ((n, both .0), both .1)
 
 -- the same first rows, and later ones that answer alike
-pub refused-tail : (rows later later′ : List Row) (a : Refusal) → (RefusedBy later a → RefusedBy later′ a) → RefusedBy (rows ++ later) a → RefusedBy (rows ++ later′) a
+pub refused-tail : (rows later later′ : List Row) (a : Refusal) → (RefusedBy later a → RefusedBy later′ a) → RefusedBy (rows ++ later) a
+    → RefusedBy (rows ++ later′) a
 unfolding RefusedBy
 refused-tail [] later later′ a f x = f x
 refused-tail (row ∷ rows) later later′ a f (inl g) = inl g

@@ -30,7 +30,8 @@ bound-small C P M c p m =
     let x : (M - 1) * P ≤ 15 * 16776960 = mul-le-mul k l in
     omega arith
 
--- where M × D is at least S it stays so for less work, a shorter path and more processors: P ≤ C gives P ≤ D, so each processor more adds no less to M × D than to S
+-- where M × D is at least S it stays so for less work, a shorter path and more processors: P ≤ C gives P ≤ D, so each processor more adds no
+-- less to M × D than to S
 pub bound-altered : (C P C′ P′ M M′ D : ℕ) → 1 ≤ M → P ≤ C → C′ ≤ C → P′ ≤ P → M ≤ M′ → bound C P M ≤ M * D → bound C′ P′ M′ ≤ M′ * D
 unfolding bound
 bound-altered C P C′ P′ zero M′ D one pc c p m fits = absurd (omega arith)

@@ -17,4 +17,5 @@ pub jump : {times : List ℕ} {arrows : List (List ℕ)} {order : List ℕ} {M :
     → ((j : ℕ) → IsSubtask times j → Placed plan j → t < endOf times plan j → e ≤ endOf times plan j) → ByRule times arrows order M e plan
 jump g t zero plan r h l n = absurd (omega arith)
 jump {times} {arrows} {M = M} g t (suc e) plan r h l n = by-cases (ℕ-discrete t e) (λ q. rw (← q) (tick r h))
-    (λ q. tick (jump g t e plan r h (omega arith) (λ j s b x. omega (arith, n j s b x))) (λ d. h (same-idle times arrows M plan t e (omega arith) g (λ j s b x. n j s b x) d)))
+    (λ q. tick (jump g t e plan r h (omega arith) (λ j s b x. omega (arith, n j s b x)))
+    (λ d. h (same-idle times arrows M plan t e (omega arith) g (λ j s b x. n j s b x) d)))

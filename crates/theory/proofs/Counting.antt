@@ -25,7 +25,8 @@ count-less A B (suc n) k b l x y f g c = go (ℕ-discrete b n) c
   where
     go : Dec (b ≡ n) → (A n × (1 ≤ k) × Count A n (k - 1)) ⊎ ((¬ A n) × Count A n k) → ((m : ℕ) → b < n → Count A n m → (1 ≤ m) × Count B n (m - 1))
         → (1 ≤ k) × ((B n × (1 ≤ k - 1) × Count B n (k - 1 - 1)) ⊎ ((¬ B n) × Count B n (k - 1)))
-    go (yes e) (inl (_, m, d)) r = (m, inr (rw e at y, count-same A B n (k - 1) (λ a p. f a (omega arith) (omega arith)) (λ a p. g a (omega arith) (omega arith)) d))
+    go (yes e) (inl (_, m, d)) r =
+        (m, inr (rw e at y, count-same A B n (k - 1) (λ a p. f a (omega arith) (omega arith)) (λ a p. g a (omega arith) (omega arith)) d))
     go (yes e) (inr (h, d)) r = absurd (h (rw e at x))
     go (no e) (inl (z, m, d)) r = let s = r (k - 1) (omega arith) d in (m, inl (f n (omega arith) (λ q. e (omega arith)) z, s .0, s .1))
     go (no e) (inr (h, d)) r = let s = r k (omega arith) d in (s .0, inr ((λ z. h (g n (omega arith) (λ q. e (omega arith)) z)), s .1))

@@ -45,7 +45,8 @@ fits-bound times arrows M D figures spare (a, f, v) =
     (a, (figures .p, f .path, rw (f .sum, f .work) at (v .0)))
 
 -- and where it is, there is an answer, which says "fits"
-bound-fits : (times : List ℕ) (arrows : List (List ℕ)) (M D P : ℕ) → Accepted (verdictRows times arrows M D) → IsLongest times arrows P → bound (totalWork times) P M ≤ M * D
+bound-fits : (times : List ℕ) (arrows : List (List ℕ)) (M D P : ℕ) → Accepted (verdictRows times arrows M D) → IsLongest times arrows P
+    → bound (totalWork times) P M ≤ M * D
     → (answer : Answer) × IsAnswer times arrows M D answer × SaysFits answer
 unfolding IsOutcome IsVerdict
 bound-fits times arrows M D P a l f = (

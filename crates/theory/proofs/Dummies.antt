@@ -12,7 +12,8 @@ use Rattle.terms.specs.Plans.{at, notPlaced, processorOf, startOf, endOf, Place
 use Rattle.terms.specs.ListRule.{ByRule, IsListPlan}
 use Rattle.terms.specs.Refusals.{timeAndArrowRows, graphRows, verdictRows, listRows, checkRows}
 use Rattle.terms.specs.Replies.{IsCheck, IsMeasure, IsTotalWork, IsLongestPath, IsOutcome, IsListed, IsChecked}
-use Rattle.terms.specs.Readings.{graph, isSize, isFirst, isShape, isTask, isEntryDummy, isExitDummy, mayFollow, arrowsInto, withTask, trailer, exitLine, taskLines, entryLine, readLines, readText, IsReplyTo, IsRead}
+use Rattle.terms.specs.Readings.{graph, isSize, isFirst, isShape, isTask, isEntryDummy, isExitDummy, mayFollow, arrowsInto, withTask, trailer}
+use Rattle.terms.specs.Readings.{exitLine, taskLines, entryLine, readLines, readText, IsReplyTo, IsRead}
 use Rattle.terms.specs.Texts.{allPass, lines, fields, valueFrom, proper, numbers}
 use Rattle.terms.specs.declared.Entry.{Entry}
 use Rattle.terms.specs.declared.Refusal.{Refusal}
@@ -25,7 +26,8 @@ use Rattle.theory.proofs.Accepted.{read-accepted, busy-plan, accepted-p
 use Rattle.theory.proofs.Paths.{one-longest}
 use Rattle.theory.proofs.ListRule.{by-rule, still-early, ends-early}
 use Rattle.theory.proofs.Answers.{not-both}
-use Rattle.theory.proofs.Pairs.{none-precedes, both, first, second, pair-sound, pair-longest, pair-total, inTurn, pair-order, one-processor, pair-figures, pair-listed, short, short-sound, short-accepted, turns, turns-busy}
+use Rattle.theory.proofs.Pairs.{none-precedes, both, first, second, pair-sound, pair-longest, pair-total, inTurn, pair-order, one-processor}
+use Rattle.theory.proofs.Pairs.{pair-figures, pair-listed, short, short-sound, short-accepted, turns, turns-busy}
 use Rattle.terms.specs.declared.Check.the-variants as check
 use Rattle.terms.specs.declared.Measure.the-variants as measure
 use Rattle.terms.specs.declared.Amount.the-variants as amount
@@ -56,7 +58,8 @@ unfolding IsOutcome
 refuses-verdict figures r h =
     not-both (verdictRows short [] 1 2) r (accepted-verdict short [] 1 2 short-sound one-processor (record { low = omega arith; high = omega arith })) (h .0)
 
-pair-refused : (t u : ℕ) (before after : List Entry) (r : Refusal) → 1 ≤ t → 1 ≤ u → 2 ≤ length before → ¬ IsListed (t ∷ u ∷ []) [] 1 inTurn before after (planEnd.Refused r)
+pair-refused : (t u : ℕ) (before after : List Entry) (r : Refusal) → 1 ≤ t → 1 ≤ u → 2 ≤ length before
+    → ¬ IsListed (t ∷ u ∷ []) [] 1 inTurn before after (planEnd.Refused r)
 unfolding IsListed
 pair-refused t u before after r l m room h = not-both (listRows (t ∷ u ∷ []) [] 1 inTurn (length before)) r (pair-listed t u (length before) l m room) (h .0)
 
@@ -107,7 +110,8 @@ pub makes-up-P : (P : ℕ) → IsLongestPath uneven [] (amount.Is P) → P ≡ 2
 unfolding IsLongestPath
 makes-up-P P h = one-longest P 2 (h .1) (pair-longest 1 2 (omega arith))
 
-pub makes-up-S : (figures : Figures) (verdict : Verdict) → IsOutcome uneven [] 2 3 figures (Judged verdict) → (figures .c ≡ 3) × (figures .p ≡ 2) × (figures .s ≡ 5)
+pub makes-up-S : (figures : Figures) (verdict : Verdict) → IsOutcome uneven [] 2 3 figures (Judged verdict)
+    → (figures .c ≡ 3) × (figures .p ≡ 2) × (figures .s ≡ 5)
 unfolding IsOutcome
 makes-up-S figures verdict (a, f, v) = pair-figures 1 2 2 3 figures (omega arith) f
 
@@ -133,7 +137,8 @@ long-late plan p a b =
     v .apart 1 2 1 first second (λ e. omega arith) (omega (arith, v .range 1 first x, v .range 2 second y))
     (record { placed = x; begun = a; unended = omega arith }) (record { placed = y; begun = b; unended = omega arith })
 
-pub returns-same-plan : (before after : List Entry) (a b : PlanEnd) → 2 ≤ length before → IsListed short [] 1 inTurn before after a → ¬ IsListed long [] 1 inTurn before after b
+pub returns-same-plan : (before after : List Entry) (a b : PlanEnd) → 2 ≤ length before → IsListed short [] 1 inTurn before after a
+    → ¬ IsListed long [] 1 inTurn before after b
 unfolding IsListed
 returns-same-plan before after (planEnd.Ends E) (planEnd.Ends F) room p q =
     let e = short-early (take 2 after) (p .1 .plan) in

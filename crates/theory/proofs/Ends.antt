@@ -25,6 +25,7 @@ one-end times plan E F e f =
     omega (arith, e .reached .2, f .reached .2, e .most (f .reached .0) (f .reached .1), f .most (e .reached .0) (e .reached .1))
 
 -- so the plan check has a reply for every plan that it accepts
-pub checked-exists : (times : List ℕ) (arrows : List (List ℕ)) (M : ℕ) (plan : List Entry) → Accepted (checkRows times arrows M plan) → (E : ℕ) × IsChecked times arrows M plan (Ends E)
+pub checked-exists : (times : List ℕ) (arrows : List (List ℕ)) (M : ℕ) (plan : List Entry) → Accepted (checkRows times arrows M plan)
+    → (E : ℕ) × IsChecked times arrows M plan (Ends E)
 unfolding IsChecked
 checked-exists times arrows M plan a = let e = ends times plan (busy-plan times arrows M plan a .0 .count .low) in (e .0, (a, e .1))

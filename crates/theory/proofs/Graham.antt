@@ -29,7 +29,8 @@ module _ (times : List ℕ) (arrows : List (List ℕ)) (M : ℕ) (plan : List En
   -- where a processor is free at t, a subtask that starts later is held back by a predecessor that ends after t: else it were ready
   held : (j t p : ℕ) → IsSubtask times j → t < startOf plan j → Among 1 M p → FreeAt times plan p t → (k : ℕ) × Precedes arrows k j × (t < endOf times plan k)
   held j t p s l inRange free =
-      ⊎-elim (λ found. (found .0, found .2 .0, found .2 .1)) (λ h. absurd (a .busy t (record { subtask = j; isSubtask = s; ready = ready h; processor = p; inRange = inRange; free = free })))
+      ⊎-elim (λ found. (found .0, found .2 .0, found .2 .1))
+      (λ h. absurd (a .busy t (record { subtask = j; isSubtask = s; ready = ready h; processor = p; inRange = inRange; free = free })))
       (search (length times) Holds (λ k. Dec·and (decPrecedes arrows k j) (decLt t (endOf times plan k))))
     where
       Holds : ℕ → Type 0
@@ -70,7 +71,8 @@ module _ (times : List ℕ) (arrows : List (List ℕ)) (M : ℕ) (plan : List En
   unfolding slack weight endOf
   slack-path = strong (λ j. IsSubtask times j → (p : PathTo times arrows j) × (sum (endOf times plan j) slack ≤ weight p)) (startOf plan) method
     where
-      method : (j : ℕ) → ((k : ℕ) → startOf plan k < startOf plan j → IsSubtask times k → (p : PathTo times arrows k) × (sum (endOf times plan k) slack ≤ weight p))
+      method : (j : ℕ)
+          → ((k : ℕ) → startOf plan k < startOf plan j → IsSubtask times k → (p : PathTo times arrows k) × (sum (endOf times plan k) slack ≤ weight p))
           → IsSubtask times j → (p : PathTo times arrows j) × (sum (endOf times plan j) slack ≤ weight p)
       method j ih s = go (last (startOf plan j) (λ t. running times plan t < M) (λ t. decLt (running times plan t) M))
         where
@@ -121,7 +123,8 @@ module _ (times : List ℕ) (arrows : List (List ℕ)) (M : ℕ) (plan : List En
       omega (arith, x .2, bound-mono (totalWork times) (weight (x .1)) P M (q .most (x .0) (x .1)))
 
 -- the bound over the promises: where the plan check replies E, M × E is at most S
-pub graham-bound : (times : List ℕ) (arrows : List (List ℕ)) (M : ℕ) (plan : List Entry) (E P : ℕ) → IsChecked times arrows M plan (Ends E) → IsLongest times arrows P
+pub graham-bound : (times : List ℕ) (arrows : List (List ℕ)) (M : ℕ) (plan : List Entry) (E P : ℕ) → IsChecked times arrows M plan (Ends E)
+    → IsLongest times arrows P
     → M * E ≤ bound (totalWork times) P M
 unfolding IsChecked
 graham-bound times arrows M plan E P c l = let b = busy-plan times arrows M plan (c .0) in graham times arrows M plan (b .0) (b .1) E P (c .1) l

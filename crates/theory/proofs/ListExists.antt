@@ -57,7 +57,8 @@ module _ (times : List ℕ) (arrows : List (List ℕ)) (order : List ℕ) (M : �
           f (q .0) (q .1) (rw (q .2) (d .ready)))
 
   module _ (g : SoundGraph times arrows) where
-    count-put : (t : ℕ) (plan : List Entry) (j p : ℕ) → ByRule times arrows order M t plan → Goes times arrows order M plan t j p → count times (put plan j p t) + 1 ≤ count times plan
+    count-put : (t : ℕ) (plan : List Entry) (j p : ℕ) → ByRule times arrows order M t plan → Goes times arrows order M plan t j p
+        → count times (put plan j p t) + 1 ≤ count times plan
     unfolding count
     count-put t plan j p r a =
         let x = sum-add (length times) (λ i. bit (decLe (processorOf (put plan j p t) (suc i)) 0)) (λ i. bit (ℕ-discrete (suc i) j)) in
@@ -71,7 +72,8 @@ module _ (times : List ℕ) (arrows : List (List ℕ)) (order : List ℕ) (M : �
         s : IsSubtask times j
         s = rw (a .stands) at (o .each (a .place) (a .inside))
 
-        same : (i : ℕ) → suc i ≡ j → bit (decLe (processorOf (put plan j p t) (suc i)) 0) + bit (ℕ-discrete (suc i) j) ≤ bit (decLe (processorOf plan (suc i)) 0)
+        same : (i : ℕ) → suc i ≡ j
+            → bit (decLe (processorOf (put plan j p t) (suc i)) 0) + bit (ℕ-discrete (suc i) j) ≤ bit (decLe (processorOf plan (suc i)) 0)
         same i e =
             let x : processorOf (put plan j p t) (suc i) ≡ p = rw e (new-processor times arrows M g order t plan v j p s a) in
             let y : ¬ Placed plan (suc i) = rw e (unplaced times arrows M g order t plan v j p s a) in
@@ -79,7 +81,8 @@ module _ (times : List ℕ) (arrows : List (List ℕ)) (order : List ℕ) (M : �
             let before = bit-yes (decLe (processorOf plan (suc i)) 0) (omega arith) in
             omega (arith, bit-le (ℕ-discrete (suc i) j))
 
-        other : (i : ℕ) → i < length times → suc i ≢ j → bit (decLe (processorOf (put plan j p t) (suc i)) 0) + bit (ℕ-discrete (suc i) j) ≤ bit (decLe (processorOf plan (suc i)) 0)
+        other : (i : ℕ) → i < length times → suc i ≢ j
+            → bit (decLe (processorOf (put plan j p t) (suc i)) 0) + bit (ℕ-discrete (suc i) j) ≤ bit (decLe (processorOf plan (suc i)) 0)
         other i l e =
             rw (old-processor times arrows M g order t plan v j p s a (suc i) (record { low = omega arith; high = l }) e)
             (omega (arith, bit-no (ℕ-discrete (suc i) j) e))
@@ -93,7 +96,8 @@ module _ (times : List ℕ) (arrows : List (List ℕ)) (order : List ℕ) (M : �
     unfolding Through
     advance zero t plan r c = ⊎-elim (λ s. absurd (omega (arith, count-put t plan (s .0) (s .1) r (s .2)))) (λ h. (plan, r, h)) (next plan t)
     advance (suc k) t plan r c =
-        ⊎-elim (λ s. advance k t (put plan (s .0) (s .1) t) (goes r (s .0) (s .1) (s .2)) (omega (arith, count-put t plan (s .0) (s .1) r (s .2)))) (λ h. (plan, r, h)) (next plan t)
+        ⊎-elim (λ s. advance k t (put plan (s .0) (s .1) t) (goes r (s .0) (s .1) (s .2)) (omega (arith, count-put t plan (s .0) (s .1) r (s .2))))
+        (λ h. (plan, r, h)) (next plan t)
 
     -- the rule up to the clock t
     run : (t : ℕ) → (plan : List Entry) × ByRule times arrows order M t plan

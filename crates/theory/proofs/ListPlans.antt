@@ -24,7 +24,8 @@ seam front rest n e = rw (← e) (take-append-seam front rest, drop-append-seam 
 
 module _ (times : List ℕ) (arrows : List (List ℕ)) (M : ℕ) (order : List ℕ) where
   -- every plan of the rule is accepted
-  pub list-plan-accepted : (plan : List Entry) → Accepted (graphRows times arrows) → In16Bits times → Among 1 16 M → IsOrder times order → IsListPlan times arrows order M plan
+  pub list-plan-accepted : (plan : List Entry) → Accepted (graphRows times arrows) → In16Bits times → Among 1 16 M → IsOrder times order
+      → IsListPlan times arrows order M plan
       → Accepted (checkRows times arrows M plan)
   list-plan-accepted plan a bits m o p =
       let g = sound-graph times arrows a in
@@ -32,7 +33,8 @@ module _ (times : List ℕ) (arrows : List (List ℕ)) (M : ℕ) (order : List �
 
   -- and there is one, with every start in range
   pub list-plan-exists : Accepted (graphRows times arrows) → In16Bits times → Among 1 16 M → IsOrder times order
-      → (plan : List Entry) × IsListPlan times arrows order M plan × Accepted (checkRows times arrows M plan) × ((j : ℕ) → IsSubtask times j → startOf plan j ≤ 16776960)
+      → (plan : List Entry) × IsListPlan times arrows order M plan × Accepted (checkRows times arrows M plan) ×
+      ((j : ℕ) → IsSubtask times j → startOf plan j ≤ 16776960)
   list-plan-exists a bits m o =
       let g = sound-graph times arrows a in
       let p = list-exists times arrows order M o g (m .low) in

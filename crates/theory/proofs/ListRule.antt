@@ -30,7 +30,8 @@ pub record SoFar (times : List ℕ) (arrows : List (List ℕ)) (M t : ℕ) (plan
   pub range : (j : ℕ) → IsSubtask times j → Placed plan j → processorOf plan j ≤ M
   pub begun : (j : ℕ) → IsSubtask times j → Placed plan j → startOf plan j ≤ t
   pub ordered : (i j : ℕ) → Precedes arrows i j → Placed plan j → Placed plan i × (endOf times plan i ≤ startOf plan j)
-  pub apart : (i j u : ℕ) → IsSubtask times i → IsSubtask times j → i ≢ j → processorOf plan i ≡ processorOf plan j → RunsAt times plan i u → ¬ RunsAt times plan j u
+  pub apart : (i j u : ℕ) → IsSubtask times i → IsSubtask times j → i ≢ j → processorOf plan i ≡ processorOf plan j → RunsAt times plan i u
+      → ¬ RunsAt times plan j u
   pub busy : (u : ℕ) → u < t → ¬ IdleAt times arrows M plan u
 
 module _ (times : List ℕ) (arrows : List (List ℕ)) (M : ℕ) (g : SoundGraph times arrows) where
@@ -54,7 +55,8 @@ module _ (times : List ℕ) (arrows : List (List ℕ)) (M : ℕ) (g : SoundGraph
     busy = λ u l. by-cases (ℕ-discrete u t) (λ e. rw e h) (λ e. v .busy u (omega arith));
   }
 
-  module _ (order : List ℕ) (t : ℕ) (plan : List Entry) (v : SoFar times arrows M t plan) (j p : ℕ) (s : IsSubtask times j) (go : Goes times arrows order M plan t j p) where
+  module _ (order : List ℕ) (t : ℕ) (plan : List Entry) (v : SoFar times arrows M t plan) (j p : ℕ) (s : IsSubtask times j)
+      (go : Goes times arrows order M plan t j p) where
     high : j ≤ length plan
     high = rw (v .whole) (s .high)
 
@@ -129,7 +131,8 @@ module _ (times : List ℕ) (arrows : List (List ℕ)) (M : ℕ) (g : SoundGraph
           d .free k r (old-processor k r h ∙ e) (runs-new k u r h x);
     }
 
-    ordered-new : (i k : ℕ) → Precedes arrows i k → Placed (put plan j p t) k → Placed (put plan j p t) i × (endOf times (put plan j p t) i ≤ startOf (put plan j p t) k)
+    ordered-new : (i k : ℕ) → Precedes arrows i k → Placed (put plan j p t) k
+        → Placed (put plan j p t) i × (endOf times (put plan j p t) i ≤ startOf (put plan j p t) k)
     ordered-new i k w b = by-cases (ℕ-discrete k j)
         (λ e.
         let x = go .ready .served i (rw e at w) in
@@ -186,7 +189,8 @@ module _ (times : List ℕ) (arrows : List (List ℕ)) (M : ℕ) (g : SoundGraph
     work-left j s h =
         let x = sum-swap t (length times) (λ u i. runs times plan (suc i) u) in
         let y = sum-add (length times) (λ i. sum t (λ u. runs times plan (suc i) u)) (λ i. bit (ℕ-discrete (suc i) j) * timeOf times (suc i)) in
-        let z : sum (length times) (λ i. sum t (λ u. runs times plan (suc i) u) + bit (ℕ-discrete (suc i) j) * timeOf times (suc i)) ≤ sum (length times) (λ i. timeOf times (suc i)) =
+        let z : sum (length times) (λ i. sum t (λ u. runs times plan (suc i) u) + bit (ℕ-discrete (suc i) j) * timeOf times (suc i)) ≤ sum
+        (length times) (λ i. timeOf times (suc i)) =
         sum-le (length times) _ _ (λ i l. by-cases (ℕ-discrete (suc i) j)
         (λ e. rw (bit-yes (ℕ-discrete (suc i) j) e, one-mul) (omega (arith, runs-none times plan t (suc i) (rw e h))))
         (λ e. rw (bit-no (ℕ-discrete (suc i) j) e, zero-mul) (omega (arith, runs-most times plan t (suc i))))) in

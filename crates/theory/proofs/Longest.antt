@@ -54,7 +54,8 @@ module _ (arrows : List (List ℕ)) (f : ℕ → ℕ) (j : ℕ) where
   into-reach zero = inl refl
   into-reach (suc k) = go (ℕ-discrete (toOf arrows k) j) (into-reach k)
     where
-      go : (d : Dec (toOf arrows k ≡ j)) → Reached k (mostInto arrows f j k) → Reached (suc k) (pick d (max (mostInto arrows f j k) (f (fromOf arrows k))) (mostInto arrows f j k))
+      go : (d : Dec (toOf arrows k ≡ j)) → Reached k (mostInto arrows f j k)
+          → Reached (suc k) (pick d (max (mostInto arrows f j k) (f (fromOf arrows k))) (mostInto arrows f j k))
       go (no x) (inl z) = inl z
       go (no x) (inr (a, l, e, q)) = inr (a, omega arith, e, q)
       go (yes x) (inl z) = inr (k, omega arith, x, omega arith)
@@ -104,7 +105,8 @@ module _ {times : List ℕ} {arrows : List (List ℕ)} (g : SoundGraph times arr
       by-arrow m i w q (inl z) = (alone j s, omega arith)
       by-arrow m i w q (inr (p, e)) = (along p j w, omega arith)
 
-      go : Reached arrows f j (length arrows) (mostInto arrows f j (length arrows)) → (p : PathTo times arrows j) × (weight p ≡ timeOf times j + mostInto arrows f j (length arrows))
+      go : Reached arrows f j (length arrows) (mostInto arrows f j (length arrows))
+          → (p : PathTo times arrows j) × (weight p ≡ timeOf times j + mostInto arrows f j (length arrows))
       go (inl z) = (alone j s, omega arith)
       go (inr (a, l, e, q)) =
           let w : Precedes arrows (fromOf arrows a) j = record { place = a; inside = l; begins = refl; arrives = e } in

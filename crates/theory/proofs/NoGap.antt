@@ -14,7 +14,8 @@ use Rattle.theory.proofs.Search.{search, strong}
 use Rattle.theory.proofs.Longest.{heaviest, arrow-rises}
 use Rattle.theory.proofs.Running.{decPrecedes, running, counted}
 
-module _ (times : List ℕ) (arrows : List (List ℕ)) (M : ℕ) (plan : List Entry) (t : ℕ) (g : SoundGraph times arrows) (one : 1 ≤ M) (busy : ¬ IdleAt times arrows M plan t) where
+module _ (times : List ℕ) (arrows : List (List ℕ)) (M : ℕ) (plan : List Entry) (t : ℕ) (g : SoundGraph times arrows) (one : 1 ≤ M)
+    (busy : ¬ IdleAt times arrows M plan t) where
   Ended : ℕ → Type 0
   Ended k = Placed plan k × (endOf times plan k ≤ t)
 

@@ -45,7 +45,8 @@ module _ (times : List ℕ) (arrows : List (List ℕ)) (order : List ℕ) (M : �
 
   module _ (o : IsOrder times order) where
     -- after so many steps there is one state
-    one-state : {t u : ℕ} {plan other : List Entry} (r : ByRule times arrows order M t plan) (q : ByRule times arrows order M u other) → steps r ≡ steps q → (t ≡ u) × (plan ≡ other)
+    one-state : {t u : ℕ} {plan other : List Entry} (r : ByRule times arrows order M t plan) (q : ByRule times arrows order M u other)
+        → steps r ≡ steps q → (t ≡ u) × (plan ≡ other)
     unfolding steps
     one-state begin begin e = (refl, refl)
     one-state begin (goes q k y b) e = absurd (omega arith)

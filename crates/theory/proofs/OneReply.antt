@@ -95,7 +95,8 @@ module _ (times : List ℕ) (arrows : List (List ℕ)) (M D : ℕ) where
       (e, ap outcome.Judged (one-verdict (f .s) M D a b (p .2) (rw (← e) at (q .2))))
   one-outcome f g (outcome.Judged a) (outcome.Refused b) p q = not-both (verdictRows times arrows M D) b (p .0) (q .0)
   one-outcome f g (outcome.Refused a) (outcome.Judged b) p q = not-both (verdictRows times arrows M D) a (q .0) (p .0)
-  one-outcome f g (outcome.Refused a) (outcome.Refused b) p q = (p .1 ∙ sym (q .1), ap outcome.Refused (one-refusal (verdictRows times arrows M D) a b (p .0) (q .0)))
+  one-outcome f g (outcome.Refused a) (outcome.Refused b) p q =
+      (p .1 ∙ sym (q .1), ap outcome.Refused (one-refusal (verdictRows times arrows M D) a b (p .0) (q .0)))
 
   pub one-judged : (a b : Answer) → IsAnswer times arrows M D a → IsAnswer times arrows M D b → a ≡ b
   one-judged a b p q =
@@ -113,7 +114,8 @@ module _ (times : List ℕ) (arrows : List (List ℕ)) (M : ℕ) where
   one-checked plan (planEnd.Refused a) (planEnd.Refused b) p q = ap planEnd.Refused (one-refusal (checkRows times arrows M plan) a b p q)
 
   -- the reply, and the lent row
-  pub one-listed : (order : List ℕ) (before after other : List Entry) (a b : PlanEnd) → IsListed times arrows M order before after a → IsListed times arrows M order before other b
+  pub one-listed : (order : List ℕ) (before after other : List Entry) (a b : PlanEnd) → IsListed times arrows M order before after a
+      → IsListed times arrows M order before other b
       → (a ≡ b) × (after ≡ other)
   unfolding IsListed IsChecked
   one-listed order before after other (planEnd.Ends E) (planEnd.Ends F) (p, h) (q, k) =
@@ -141,8 +143,12 @@ one-reading (graph times arrows) n m x y u v (counts.Refused a) (counts.Refused 
     (ap counts.Refused (one-refusal (timeAndArrowRows times arrows) a b p q), h .timesHeld ∙ sym (i .timesHeld), h .arrowsHeld ∙ sym (i .arrowsHeld))
 one-reading (graph times arrows) n m x y u v (counts.Refused a) (counts.Read b) p q = not-both (timeAndArrowRows times arrows) a (q .0) (p .0)
 one-reading (graph times arrows) n m x y u v (counts.Read a) (counts.Refused b) p q = not-both (timeAndArrowRows times arrows) b (p .0) (q .0)
-one-reading (graph times arrows) n m x y u v (counts.Read a) (counts.Read b) (p, s, t, h) (q, s′, t′, i) =
-    (ap₂ (λ (c d : ℕ). counts.Read (record { subtasks = c; arrows = d })) (s ∙ sym s′) (t ∙ sym t′), h .timesHeld ∙ sym (i .timesHeld), h .arrowsHeld ∙ sym (i .arrowsHeld))
+one-reading (graph times arrows) n m x y u v (counts.Read a) (counts.Read b) (p, s, t, h) (q, s′, t′, i) = (
+  ap₂ (λ (c d : ℕ). counts.Read (record { subtasks = c; arrows = d })) (s ∙ sym s′) (t ∙ sym t′),
+  h .timesHeld ∙ sym (i .timesHeld),
+  h .arrowsHeld
+      ∙ sym (i .arrowsHeld),
+)
 
 -- the reply, and both rows
 pub one-read : (timesRoom arrowsRoom : ℕ) (text : List ℕ) (timesRow timesRow′ : List ℕ) (arrowsRow arrowsRow′ : List (List ℕ)) (a b : Counts)

@@ -44,7 +44,8 @@ always-fits-ends-late goesOn =
     let listed = examples .one .1 in
     let g = sound-graph timesG arrowsG (examples .one .0 .accepted) in
     let e : 12 ≤ 1 =
-    goesOn timesG timesG arrowsG arrowsG 3 3 1 12 (take 9 (listed .0)) tt (itself g (omega arith)) (listed-checked timesG arrowsG 3 orderG _ (listed .0) 12 (listed .1)) in
+    goesOn timesG timesG arrowsG arrowsG 3 3 1 12 (take 9 (listed .0)) tt (itself g (omega arith))
+    (listed-checked timesG arrowsG 3 orderG _ (listed .0) 12 (listed .1)) in
     omega (arith, e)
 
 -- "the list plan ends by D": that of G ends at 12, that of G without 4→5 and 4→6 at 16
@@ -55,7 +56,8 @@ plan-end-is-no-verdict goesOn =
     let altered : Altered timesG arrowsG 3 timesG fewerG 3 =
     dropped-altered dropped-G g refl (λ j s. record { low = g .positive j s; high = omega arith }) (record { low = omega arith; high = omega arith }) in
     let e : 16 ≤ 12 =
-    goesOn timesG timesG arrowsG fewerG 3 3 12 16 (take 9 (listed .0)) (examples .one .1) altered (listed-checked timesG fewerG 3 orderG _ (listed .0) 16 (listed .1)) in
+    goesOn timesG timesG arrowsG fewerG 3 3 12 16 (take 9 (listed .0)) (examples .one .1) altered
+    (listed-checked timesG fewerG 3 orderG _ (listed .0) 16 (listed .1)) in
     omega (arith, e)
 
 -- example 5: G on 3 processors fits 20; so G with every time shorter by 1, without 4→5 and 4→6, on 4 processors goes on fitting 20

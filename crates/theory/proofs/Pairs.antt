@@ -41,7 +41,8 @@ loose-sound times count positive = record {
     never (step w) = none-precedes w
     never (more l w) = none-precedes w
 
-loose-longest : (times : List ℕ) (j : ℕ) → IsSubtask times j → ((i : ℕ) → IsSubtask times i → timeOf times i ≤ timeOf times j) → IsLongest times [] (timeOf times j)
+loose-longest : (times : List ℕ) (j : ℕ) → IsSubtask times j → ((i : ℕ) → IsSubtask times i → timeOf times i ≤ timeOf times j)
+    → IsLongest times [] (timeOf times j)
 unfolding weight
 loose-longest times j s most = record { reached = (j, alone j s, refl); most = λ i p. one p }
   where

@@ -71,11 +71,13 @@ module _ (times : List ℕ) (arrows : List (List ℕ)) (M : ℕ) (plan : List En
   }
 
 -- 17 by counting: a subtask is ready and fewer than M run
-pub idle-when-fewer : (times : List ℕ) (arrows : List (List ℕ)) (M : ℕ) (plan : List Entry) (j t : ℕ) → IsSubtask times j → ReadyAt times arrows plan j t → running times plan t < M
+pub idle-when-fewer : (times : List ℕ) (arrows : List (List ℕ)) (M : ℕ) (plan : List Entry) (j t : ℕ) → IsSubtask times j
+    → ReadyAt times arrows plan j t → running times plan t < M
     → IdleAt times arrows M plan t
 idle-when-fewer times arrows M plan j t s r l =
     let p = free-when-fewer times plan M t l in record { subtask = j; isSubtask = s; ready = r; processor = p .0; inRange = p .1; free = p .2 }
 
-pub fewer-when-idle : (times : List ℕ) (arrows : List (List ℕ)) (M : ℕ) (plan : List Entry) (t : ℕ) → SoundPlan times arrows M plan → IdleAt times arrows M plan t
+pub fewer-when-idle : (times : List ℕ) (arrows : List (List ℕ)) (M : ℕ) (plan : List Entry) (t : ℕ) → SoundPlan times arrows M plan
+    → IdleAt times arrows M plan t
     → running times plan t < M
 fewer-when-idle times arrows M plan t sound d = fewer-when-free times arrows M plan t (d .processor) sound (d .inRange) (d .free)

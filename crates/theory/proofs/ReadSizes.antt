@@ -12,7 +12,9 @@ use lib.ListN.{length, getD}
 use Rattle.terms.specs.Rows.{Accepted}
 use Rattle.terms.specs.Refusals.{timeRows, sizeRows, timeAndArrowRows}
 use Rattle.terms.specs.Texts.{lines, proper, numbers}
-use Rattle.terms.specs.Readings.{Reading, refuse, graph, need, lineAtHand, linesAfter, isSize, isFirst, sizeIn, isTask, timeIn, predecessorsIn, arrowsInto, isEntryDummy, isExitDummy, mayFollow, withTask, trailer, exitLine, taskLines, entryLine, readLines, readText, IsReplyTo, IsRead}
+use Rattle.terms.specs.Readings.{Reading, refuse, graph, need, lineAtHand, linesAfter, isSize, isFirst, sizeIn, isTask, timeIn, predecessorsIn}
+use Rattle.terms.specs.Readings.{arrowsInto, isEntryDummy, isExitDummy, mayFollow, withTask, trailer, exitLine, taskLines, entryLine, readLines}
+use Rattle.terms.specs.Readings.{readText, IsReplyTo, IsRead}
 use Rattle.terms.specs.declared.GraphSize.{GraphSize}
 use Rattle.terms.specs.declared.Counts.the-variants.{Read}
 use Rattle.theory.proofs.Answers.{holdsOf, none-holds}

@@ -16,7 +16,8 @@ pub use Rattle.terms.proofs.Decide.{decRuns}
 use Rattle.theory.proofs.SoundPlans.{SoundPlan}
 use Rattle.terms.specs.Sums.{sum}
 use Rattle.theory.specs.Counting.{bit}
-use Rattle.theory.proofs.Sums.{sum-zero, sum-le, sum-eq, sum-add, sum-const, sum-swap, sum-mono, bit-yes, bit-no, bit-le, bit-one, bit-mono, sum-one, sum-lone, window, sum-term₁}
+use Rattle.theory.proofs.Sums.{sum-zero, sum-le, sum-eq, sum-add, sum-const, sum-swap, sum-mono, bit-yes, bit-no, bit-le, bit-one, bit-mono}
+use Rattle.theory.proofs.Sums.{sum-one, sum-lone, window, sum-term₁}
 use Rattle.theory.proofs.Search.{search}
 use Rattle.theory.proofs.Work.{total-sum}
 
@@ -120,13 +121,16 @@ free-when-fewer times plan M t l = ⊎-elim (λ found. found) (λ h. absurd (cro
         omega (arith, sum-const M 1)
 
 -- where a processor is free and no two share one, fewer than M run
-pub fewer-when-free : (times : List ℕ) (arrows : List (List ℕ)) (M : ℕ) (plan : List Entry) (t p : ℕ) → SoundPlan times arrows M plan → Among 1 M p → FreeAt times plan p t
+pub fewer-when-free : (times : List ℕ) (arrows : List (List ℕ)) (M : ℕ) (plan : List Entry) (t p : ℕ) → SoundPlan times arrows M plan → Among 1 M p
+    → FreeAt times plan p t
     → running times plan t < M
 unfolding running on runs
 fewer-when-free times arrows M plan t p sound inRange free =
-    let x : running times plan t ≤ sum (length times) (λ i. sum M (λ q. on times plan (suc i) (suc q) t)) = sum-le (length times) _ _ (λ i l. somewhere (suc i) (subtask i l)) in
+    let x : running times plan t ≤ sum (length times) (λ i. sum M (λ q. on times plan (suc i) (suc q) t)) = sum-le (length times) _ _
+    (λ i l. somewhere (suc i) (subtask i l)) in
     let y = sum-swap (length times) M (λ i q. on times plan (suc i) (suc q) t) in
-    let z : sum M (λ q. sum (length times) (λ i. on times plan (suc i) (suc q) t) + bit (ℕ-discrete (suc q) p)) ≤ sum M (λ q. 1) = sum-le M _ _ (λ q l. one-each (suc q)) in
+    let z : sum M (λ q. sum (length times) (λ i. on times plan (suc i) (suc q) t) + bit (ℕ-discrete (suc q) p)) ≤ sum M (λ q. 1) = sum-le M _ _
+    (λ q l. one-each (suc q)) in
     let w = sum-add M (λ q. sum (length times) (λ i. on times plan (suc i) (suc q) t)) (λ q. bit (ℕ-discrete (suc q) p)) in
     let o = sum-term₁ M (λ q. bit (ℕ-discrete q p)) p inRange in
     omega (arith, sum-const M 1, bit-yes (ℕ-discrete p p) refl)
@@ -137,7 +141,8 @@ fewer-when-free times arrows M plan t p sound inRange free =
     somewhere : (j : ℕ) → IsSubtask times j → runs times plan j t ≤ sum M (λ q. on times plan j (suc q) t)
     somewhere j s =
         let x = sum-term₁ M (λ q. on times plan j q t) (processorOf plan j) (sound .placed j s) in
-        let y : runs times plan j t ≤ on times plan j (processorOf plan j) t = bit-mono (decRuns times plan j t) (decRunsOn times plan j (processorOf plan j) t) (λ r. (refl, r)) in
+        let y : runs times plan j t ≤ on times plan j (processorOf plan j) t = bit-mono (decRuns times plan j t)
+        (decRunsOn times plan j (processorOf plan j) t) (λ r. (refl, r)) in
         omega arith
 
     -- at most one on each processor, and none on p

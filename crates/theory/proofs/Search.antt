@@ -64,7 +64,8 @@ largest (suc n) f l = go (decLe 1 n) (largest n f)
     go (yes h) r = pick (r h) (decLe (f (r h .0)) (f (suc n)))
       where
         pick : (x : Largest n f) → Dec (f (x .0) ≤ f (suc n)) → Largest (suc n) f
-        pick (j, a, m) (yes q) = (suc n, topmost n, λ i r. by-cases (ℕ-discrete i (suc n)) (λ e. rw e (le-refl (f (suc n)))) (λ e. omega (arith, m i (inner r e))))
+        pick (j, a, m) (yes q) =
+            (suc n, topmost n, λ i r. by-cases (ℕ-discrete i (suc n)) (λ e. rw e (le-refl (f (suc n)))) (λ e. omega (arith, m i (inner r e))))
         pick (j, a, m) (no q) = (j, within a, λ i r. by-cases (ℕ-discrete i (suc n)) (λ e. rw e (omega arith)) (λ e. m i (inner r e)))
 
 -- the latest of 0 and those of f 1 .. f n that are at most t

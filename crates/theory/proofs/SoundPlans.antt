@@ -15,7 +15,8 @@ pub record SoundPlan (times : List ℕ) (arrows : List (List ℕ)) (M : ℕ) (pl
   pub placed : (j : ℕ) → IsSubtask times j → Among 1 M (processorOf plan j)
   pub starts : (j : ℕ) → IsSubtask times j → startOf plan j ≤ 16776960
   pub ordered : (i j : ℕ) → Precedes arrows i j → endOf times plan i ≤ startOf plan j
-  pub apart : (i j t : ℕ) → IsSubtask times i → IsSubtask times j → i ≢ j → processorOf plan i ≡ processorOf plan j → RunsAt times plan i t → ¬ RunsAt times plan j t
+  pub apart : (i j t : ℕ) → IsSubtask times i → IsSubtask times j → i ≢ j → processorOf plan i ≡ processorOf plan j → RunsAt times plan i t
+      → ¬ RunsAt times plan j t
 
 -- nor 17
 pub record BusyPlan (times : List ℕ) (arrows : List (List ℕ)) (M : ℕ) (plan : List Entry) : Type 0 where

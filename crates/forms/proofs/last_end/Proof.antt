@@ -17,7 +17,8 @@ record EndSoFar (times starts : List ℕ) (end i : ℕ) : Type 0 where
   largest : end ≡ lastEnd times starts i
 
 module _ {times starts : List ℕ} {end i : ℕ} (far : EndSoFar times starts end i) where
-  more : {time e f : ℕ} → i < length times → i < length starts → IsTimeOf times (i + 1) time → e ≡ getD starts i 0 + time → f ≡ max end e → EndSoFar times starts f (i + 1)
+  more : {time e f : ℕ} → i < length times → i < length starts → IsTimeOf times (i + 1) time → e ≡ getD starts i 0 + time → f ≡ max end e
+      → EndSoFar times starts f (i + 1)
   unfolding lastEnd finishOf itemOf
   more l m t p q =
       let k : i + 1 ≡ suc i = omega arith in

@@ -33,7 +33,9 @@ print-refusal-requires c κs = search needs
 enum-known-size : tie.Need-enum-known-size
 enum-known-size c = search needs
 
-sizes : (c : lts.After-known-told2 (read-stg-reads.Asked, read-stg-reads.Learnt, print-refusal-reads.Asked, print-refusal-reads.Learnt, table-reads.Asked, table-reads.Learnt) reads.Pre reads.Post)
+sizes : (c : lts.After-known-told2
+    (read-stg-reads.Asked, read-stg-reads.Learnt, print-refusal-reads.Asked, print-refusal-reads.Learnt, table-reads.Asked, table-reads.Learnt)
+    reads.Pre reads.Post)
     → (c .before .size .given .0 .0 .subtasks ≤ 256) × (c .before .size .given .0 .0 .arrows ≤ 2048)
 sizes c = read-sizes _ _ _ _ _ _ (rw (c .before .size .given .1) at (c .before .before .before .before .before .read-stg .ensures))
 
@@ -44,7 +46,9 @@ slice-aggregate-table : tie.Need-slice-aggregate-table
 slice-aggregate-table c = sym (length-take-le _ _ (array-share-prefix-times (c .before)))
 
 array-share-prefix-arrows : tie.Need-array-share-prefix-arrows
-array-share-prefix-arrows c = omega (arith, sizes (c .before) .1, c .before .before .before .before .arrows2 .given, length-replicate {A = List ℕ} 2048 (0 ∷ 0 ∷ []))
+array-share-prefix-arrows c =
+    let c-arrows2 = c .before .before .before .before .arrows2 in
+    omega (arith, sizes (c .before) .1, c-arrows2 .given, length-replicate {A = List ℕ} 2048 (0 ∷ 0 ∷ []))
 
 slice-aggregate-table-2 : tie.Need-slice-aggregate-table-2
 slice-aggregate-table-2 c = sym (length-take-le _ _ (array-share-prefix-arrows (c .before)))

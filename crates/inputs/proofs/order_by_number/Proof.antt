@@ -49,8 +49,12 @@ loop-less c = search needs
 loop-again : tie.Need-loop-again Inv-loop μ-loop
 loop-again c =
     let turn = c .before .before .loop in
-    rw (c .usize-from-u16 .ensures .0)
-    (length-set (turn .order) (turn .j) (turn .j + 1) ∙ turn .inv .0, omega arith, one-more (turn .order) (turn .j) (omega (arith, turn .inv .0)) (turn .inv .2))
+    rw (c .usize-from-u16 .ensures .0) (
+      length-set (turn .order) (turn .j) (turn .j + 1) ∙ turn .inv .0,
+      omega arith,
+      one-more (turn .order) (turn .j) (omega (arith, turn .inv .0))
+          (turn .inv .2),
+    )
 
 returns : tie.Need-returns Inv-loop μ-loop
 returns c = (c .before .loop .inv .0, λ i l. c .before .loop .inv .2 i (omega (arith, l)))

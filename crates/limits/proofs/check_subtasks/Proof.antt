@@ -62,7 +62,10 @@ refuse-requires-3 c κs = search needs
 
 returns-3 : tie.Need-returns-3
 unfolding IsCheck
-returns-3 c = refused-2 _ (count (c .before .before .before)) (c .before .before .before .first-without-time .ensures) (c .before .if3 .taken) (c .refuse3 .ensures)
+returns-3 c =
+    let c-first-without-time = c .before .before .before .first-without-time in
+    let c-count = count (c .before .before .before) in
+    refused-2 _ c-count (c-first-without-time .ensures) (c .before .if3 .taken) (c .refuse3 .ensures)
 
 returns-4 : tie.Need-returns-4
 unfolding IsCheck

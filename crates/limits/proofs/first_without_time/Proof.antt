@@ -27,7 +27,10 @@ time-of-requires : tie.Need-time-of-requires Inv-loop μ-loop
 time-of-requires c κs = search needs
 
 -- the time that was read is that of the next subtask
-read : (c : tie.After-time-of Inv-loop μ-loop) → c .time-of .result ≡ timeOf (now (c .before .before .before .before .args .times)) (c .before .before .loop .j + 1)
+read : (c : tie.After-time-of Inv-loop μ-loop) →
+    let c-args = c .before .before .before .before .args in
+    let c-loop = c .before .before .loop in
+    c .time-of .result ≡ timeOf (now (c-args .times)) (c-loop .j + 1)
 read c = c .time-of .ensures .is (record { low = omega arith; high = omega (arith, c .before .loop-test .taken) })
 
 returns : tie.Need-returns Inv-loop μ-loop
@@ -37,7 +40,10 @@ loop-less : tie.Need-loop-less Inv-loop μ-loop
 loop-less c = search needs
 
 loop-again : tie.Need-loop-again Inv-loop μ-loop
-loop-again c = (omega (arith, c .before .before .loop-test .taken), below-more _ _ (c .before .before .before .loop .inv .1) (λ z. c .if1 .left (read (c .before) ∙ z)))
+loop-again c =
+    let c-loop-test = c .before .before .loop-test in
+    let c-loop = c .before .before .before .loop in
+    (omega (arith, c-loop-test .taken), below-more _ _ (c-loop .inv .1) (λ z. c .if1 .left (read (c .before) ∙ z)))
 
 returns-2 : tie.Need-returns-2 Inv-loop μ-loop
 returns-2 c = first-none _ _ _ (c .before .loop .inv .1) (c .loop-test .left)

@@ -31,12 +31,18 @@ check-split-requires : tie.Need-check-split-requires
 check-split-requires c κs = record {
   graph = c .before .before .before .before .pre .0;
   processors = c .before .before .before .before .pre .1;
-  long-procs = length-take-le {A = ℕ} _ (replicate 256 0) (omega (arith, c .before .before .before .before .pre .0 .count .high)) ∙ c .before .before .if1 .left;
-  long-starts = length-take-le {A = ℕ} _ (replicate 256 0) (omega (arith, c .before .before .before .before .pre .0 .count .high)) ∙ c .before .before .if1 .left;
+  long-procs =
+      length-take-le {A = ℕ} _ (replicate 256 0) (omega (arith, c .before .before .before .before .pre .0 .count .high)) ∙ c .before .before .if1 .left;
+  long-starts =
+      length-take-le {A = ℕ} _ (replicate 256 0) (omega (arith, c .before .before .before .before .pre .0 .count .high)) ∙ c .before .before .if1 .left;
 }
 
 returns-2 : tie.Need-returns-2
-returns-2 c = checked-front _ _ _ _ _ (c .before .before .before .before .before .before .before .pre .0) _ (c .before .before .before .before .before .if1 .left) (c .before .before .check-split .ensures)
+returns-2 c =
+    let c-pre = c .before .before .before .before .before .before .before .pre in
+    let c-if1 = c .before .before .before .before .before .if1 in
+    let c-check-split = c .before .before .check-split in
+    checked-front _ _ _ _ _ (c-pre .0) _ (c-if1 .left) (c-check-split .ensures)
 
 pub check-entries-spec : {M : Type 1} → statement M
 check-entries-spec =

@@ -24,7 +24,11 @@ cast-end : tie.Need-cast-end
 unfolding IsCheck timeOf
 cast-end c =
     let a = rw (c .before .enum-told .given .1) at (c .before .before .before .check-placing .ensures) in
-    omega (arith, end-small (c .before .before .before .before .before .before .before .pre) (c .last-end .ensures) a (λ j s. omega (arith, c .before .before .before .before .before .before .shared-slice-known .given (j - 1))))
+    omega (
+      arith,
+      end-small (c .before .before .before .before .before .before .before .pre) (c .last-end .ensures) a
+          (λ j s. omega (arith, c .before .before .before .before .before .before .shared-slice-known .given (j - 1))),
+    )
 
 returns : tie.Need-returns
 unfolding IsCheck IsChecked
@@ -32,7 +36,10 @@ returns c = rw (c .before .refusal .given .1) at (c .before .before .before .che
 
 returns-2 : tie.Need-returns-2
 unfolding IsCheck
-returns-2 c = ends-as (c .before .before .before .before .before .before .before .pre) (c .last-end .ensures) (rw (c .before .enum-told .given .1) at (c .before .before .before .check-placing .ensures))
+returns-2 c =
+    let c-pre = c .before .before .before .before .before .before .before .pre in
+    let c-check-placing = c .before .before .before .check-placing in
+    ends-as (c-pre) (c .last-end .ensures) (rw (c .before .enum-told .given .1) at (c-check-placing .ensures))
 
 pub check-rows-spec : {M : Type 1} → statement M
 check-rows-spec = tie.close (tie.spec check-placing-requires enum-known-refusal enum-told last-end-requires cast-end returns returns-2)

@@ -8,7 +8,10 @@ split-requires : tie.Need-split-requires
 split-requires c κs = search needs
 
 check-rows-requires : tie.Need-check-rows-requires
-check-rows-requires c κs = split-given (c .before .before .before .before .before .before .before .before .before .before .before .before .pre) (c .before .before .before .before .before .before .split .ensures)
+check-rows-requires c κs =
+    let c-pre = c .before .before .before .before .before .before .before .before .before .before .before .before .pre in
+    let c-split = c .before .before .before .before .before .before .split in
+    split-given (c-pre) (c-split .ensures)
 
 same-length : tie.Need-same-length
 same-length c = search needs
@@ -17,7 +20,10 @@ same-length-2 : tie.Need-same-length-2
 same-length-2 c = search needs
 
 returns : tie.Need-returns
-returns c = split-checked (c .before .before .before .before .before .before .before .before .before .before .before .before .before .pre) (c .before .before .before .before .before .before .before .split .ensures) _ (search needs) (c .check-rows .ensures)
+returns c =
+    let c-pre = c .before .before .before .before .before .before .before .before .before .before .before .before .before .pre in
+    let c-split = c .before .before .before .before .before .before .before .split in
+    split-checked (c-pre) (c-split .ensures) _ (search needs) (c .check-rows .ensures)
 
 pub check-split-spec : {M : Type 1} → statement M
 check-split-spec =

@@ -25,7 +25,10 @@ check-requires : tie.Need-check-requires
 check-requires c κs = search needs
 
 returns : tie.Need-returns
-returns c = checks-few (now (c .before .before .before .before .before .args .times)) (c .before .before .before .before .before .args .n) (now (c .before .before .before .before .before .args .arrows)) (c .before .before .before .before .before .args .a) (omega arith) (omega arith) (omega arith) _ (omega arith) (c .check .ensures)
+returns c =
+    let c-args = c .before .before .before .before .before .args in
+    checks-few (now (c-args .times)) (c-args .n) (now (c-args .arrows)) (c-args .a) (omega arith) (omega arith) (omega arith) _ (omega arith)
+    (c .check .ensures)
 
 slice-aggregate-check-subtasks : tie.Need-slice-aggregate-check-subtasks
 slice-aggregate-check-subtasks c = sym (length-take-le _ _ (omega arith))
@@ -44,11 +47,19 @@ refuse-requires c κs = search needs
 
 returns-2 : tie.Need-returns-2
 unfolding IsCheck
-returns-2 c = checks-two (now (c .before .before .before .before .before .before .before .args .times)) (c .before .before .before .before .before .before .before .args .n) (now (c .before .before .before .before .before .before .before .args .arrows)) (c .before .before .before .before .before .before .before .args .a) (omega arith) (omega arith) (omega arith) _ (known _ _ _ (c .before .refusal .given .1) (c .before .before .before .check-subtasks .ensures))
+returns-2 c =
+    let c-args = c .before .before .before .before .before .before .before .args in
+    let c-check-subtasks = c .before .before .before .check-subtasks in
+    checks-two (now (c-args .times)) (c-args .n) (now (c-args .arrows)) (c-args .a) (omega arith) (omega arith) (omega arith) _
+    (known _ _ _ (c .before .refusal .given .1) (c-check-subtasks .ensures))
 
 returns-3 : tie.Need-returns-3
 unfolding IsCheck
-returns-3 c = checks-three (now (c .before .before .before .before .before .before .before .args .times)) (c .before .before .before .before .before .before .before .args .n) (now (c .before .before .before .before .before .before .before .args .arrows)) (c .before .before .before .before .before .before .before .args .a) (omega arith) (omega arith) (omega arith) (omega arith) (known _ _ _ (c .before .enum-told .given .1) (c .before .before .before .check-subtasks .ensures)) (c .refuse .ensures)
+returns-3 c =
+    let c-args = c .before .before .before .before .before .before .before .args in
+    let c-check-subtasks = c .before .before .before .check-subtasks in
+    checks-three (now (c-args .times)) (c-args .n) (now (c-args .arrows)) (c-args .a) (omega arith) (omega arith) (omega arith) (omega arith)
+    (known _ _ _ (c .before .enum-told .given .1) (c-check-subtasks .ensures)) (c .refuse .ensures)
 
 pub check-read-spec : {M : Type 1} → statement M
 check-read-spec =

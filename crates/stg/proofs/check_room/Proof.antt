@@ -9,19 +9,29 @@ refuse-requires : tie.Need-refuse-requires
 refuse-requires c κs = search needs
 
 returns : tie.Need-returns
-returns c = λ reading. made (short-times (c .before .before .args .times) (c .before .before .args .arrows) (c .before .before .args .text) reading (c .before .if1 .taken)) (c .refuse .ensures)
+returns c =
+    let c-args = c .before .before .args in
+    λ reading. made (short-times (c-args .times) (c-args .arrows) (c-args .text) reading (c .before .if1 .taken)) (c .refuse .ensures)
 
 refuse-requires-2 : tie.Need-refuse-requires-2
 refuse-requires-2 c κs = search needs
 
 returns-2 : tie.Need-returns-2
-returns-2 c = λ reading. made (short-arrows (c .before .before .before .args .times) (c .before .before .before .args .arrows) (c .before .before .before .args .text) reading (c .before .before .if1 .left) (c .before .if2 .taken)) (c .refuse2 .ensures)
+returns-2 c =
+    let c-args = c .before .before .before .args in
+    let c-if1 = c .before .before .if1 in
+    λ reading. made (short-arrows (c-args .times) (c-args .arrows) (c-args .text) reading (c-if1 .left) (c .before .if2 .taken)) (c .refuse2 .ensures)
 
 refuse-requires-3 : tie.Need-refuse-requires-3
 refuse-requires-3 c κs = search needs
 
 returns-3 : tie.Need-returns-3
-returns-3 c = λ reading. made (long-text (c .before .before .before .before .args .times) (c .before .before .before .before .args .arrows) (c .before .before .before .before .args .text) reading (c .before .before .before .if1 .left) (c .before .before .if2 .left) (c .before .if3 .taken)) (c .refuse3 .ensures)
+returns-3 c =
+    let c-args = c .before .before .before .before .args in
+    let c-if1 = c .before .before .before .if1 in
+    let c-if2 = c .before .before .if2 in
+    λ reading. made (long-text (c-args .times) (c-args .arrows) (c-args .text) reading (c-if1 .left) (c-if2 .left) (c .before .if3 .taken))
+    (c .refuse3 .ensures)
 
 returns-4 : tie.Need-returns-4
 returns-4 c = (c .before .before .if1 .left, c .before .if2 .left, c .if3 .left)

@@ -23,7 +23,10 @@ enum-known-far : tie.Need-enum-known-far
 enum-known-far c = search needs
 
 read-tasks-requires : tie.Need-read-tasks-requires
-read-tasks-requires c κs = let o = (opens _ _ _ (c .before .before .before .far .given .1) (c .before .before .before .before .before .take-opening .ensures)) in (o .inside, o .size, omega arith)
+read-tasks-requires c κs =
+    let c-far = c .before .before .before .far in
+    let c-take-opening = c .before .before .before .before .before .take-opening in
+    let o = (opens _ _ _ (c-far .given .1) (c-take-opening .ensures)) in (o .inside, o .size, omega arith)
 
 returns : tie.Need-returns
 returns c = opening-refused _ _ _ _ _ _ (opens _ _ _ (c .before .refusal .given .1) (c .before .before .before .take-opening .ensures))
@@ -35,7 +38,11 @@ same-length-2 : tie.Need-same-length-2
 same-length-2 c = search needs
 
 returns-2 : tie.Need-returns-2
-returns-2 c = rw ((opens _ _ _ (c .before .before .before .before .before .before .before .far .given .1) (c .before .before .before .before .before .before .before .before .before .take-opening .ensures)) .does) (c .before .before .before .read-tasks .ensures)
+returns-2 c =
+    let c-far = c .before .before .before .before .before .before .before .far in
+    let c-take-opening = c .before .before .before .before .before .before .before .before .before .take-opening in
+    let c-read-tasks = c .before .before .before .read-tasks in
+    rw ((opens _ _ _ (c-far .given .1) (c-take-opening .ensures)) .does) (c-read-tasks .ensures)
 
 pub read-lines-spec : {M : Type 1} → statement M
 read-lines-spec =

@@ -34,7 +34,8 @@ returns c =
     let c-kept-by = c .before .before .before .before .before .before .kept-by in
     let c-read-graph = c .before .before .before .before .before .before .before .before .before .before .read-graph in
     let c-clear-past = c .before .before .before .clear-past in
-    reply (length (c-args .times .now)) (length (c-args .arrows .now)) _ _ (c-times .given) (c-arrows .given) _ _ (c-args .text .now) _ _ (c-kept-by .ensures) (c-read-graph .ensures) (c-clear-past .ensures)
+    reply (length (c-args .times .now)) (length (c-args .arrows .now)) _ _ (c-times .given) (c-arrows .given) _ _ (c-args .text .now) _ _
+    (c-kept-by .ensures) (c-read-graph .ensures) (c-clear-past .ensures)
 
 pub read-stg-spec : {M : Type 1} → statement M
 read-stg-spec =

@@ -28,7 +28,9 @@ add-take-closing : tie.Need-add-take-closing
 add-take-closing c = search needs
 
 take-closing-requires : tie.Need-take-closing-requires
-take-closing-requires c κs = ((tasked _ _ _ _ _ _ _ _ _ (c .before .far .given .1) (c .before .before .before .before .before .before .take-subtasks .ensures)) .inside, omega arith)
+take-closing-requires c κs =
+    let c-take-subtasks = c .before .before .before .before .before .before .take-subtasks in
+    ((tasked _ _ _ _ _ _ _ _ _ (c .before .far .given .1) (c-take-subtasks .ensures)) .inside, omega arith)
 
 enum-known-refusal-2 : tie.Need-enum-known-refusal-2
 enum-known-refusal-2 c = search needs
@@ -53,7 +55,12 @@ same-length-4 : tie.Need-same-length-4
 same-length-4 c = search needs
 
 returns-2 : tie.Need-returns-2
-returns-2 c = closing-refused _ _ _ _ _ (tasked _ _ _ _ _ _ _ _ _ (c .before .before .before .before .before .far .given .1) (c .before .before .before .before .before .before .before .before .before .before .take-subtasks .ensures)) (c .before .before .before .take-closing .ensures) _ (c .before .refusal2 .given .1)
+returns-2 c =
+    let c-far = c .before .before .before .before .before .far in
+    let c-take-subtasks = c .before .before .before .before .before .before .before .before .before .before .take-subtasks in
+    let c-take-closing = c .before .before .before .take-closing in
+    closing-refused _ _ _ _ _ (tasked _ _ _ _ _ _ _ _ _ (c-far .given .1) (c-take-subtasks .ensures)) (c-take-closing .ensures) _
+    (c .before .refusal2 .given .1)
 
 same-length-5 : tie.Need-same-length-5
 same-length-5 c = search needs
@@ -62,7 +69,13 @@ same-length-6 : tie.Need-same-length-6
 same-length-6 c = search needs
 
 returns-3 : tie.Need-returns-3
-returns-3 c = closing-sound _ _ _ _ _ (tasked _ _ _ _ _ _ _ _ _ (c .before .before .before .before .far .given .1) (c .before .before .before .before .before .before .before .before .before .take-subtasks .ensures)) (c .before .before .take-closing .ensures) (c .enum-told .given .1) (c .before .before .before .before .before .before .before .before .before .before .before .before .before .before .pre .1)
+returns-3 c =
+    let c-far = c .before .before .before .before .far in
+    let c-take-subtasks = c .before .before .before .before .before .before .before .before .before .take-subtasks in
+    let c-take-closing = c .before .before .take-closing in
+    let c-pre = c .before .before .before .before .before .before .before .before .before .before .before .before .before .before .pre in
+    closing-sound _ _ _ _ _ (tasked _ _ _ _ _ _ _ _ _ (c-far .given .1) (c-take-subtasks .ensures)) (c-take-closing .ensures) (c .enum-told .given .1)
+    (c-pre .1)
 
 pub read-tasks-spec : {M : Type 1} → statement M
 read-tasks-spec =

@@ -42,7 +42,8 @@ loop-again : tie.Need-loop-again Inv-loop μ-loop
 loop-again c =
     let c-args = c .before .before .before .before .before .before .args in
     let c-loop = c .before .before .before .before .loop in
-    rw add-one (omega (arith, ap length (digits-go (c-args .text .now) (c-loop .i) (omega arith) (sym (c .before .is-digit .ensures) ∙ not-false _ (c .if1 .left)))))
+    rw add-one (omega
+    (arith, ap length (digits-go (c-args .text .now) (c-loop .i) (omega arith) (sym (c .before .is-digit .ensures) ∙ not-false _ (c .if1 .left)))))
 
 returns-2 : tie.Need-returns-2 Inv-loop μ-loop
 returns-2 c =

@@ -56,7 +56,12 @@ add-number c =
     let c-args = c .before .before .before .before .before .before .before .args in
     let c-loop = c .before .before .before .loop in
     let c-pre = c .before .before .before .before .before .before .before .pre in
-    omega (arith, made-few (c-args .field .now) (c-loop .number) (c-loop .i) (c-loop .inv) (omega arith), digit-at (c-args .field .now) (c-loop .i) (c-pre .2) (omega arith))
+    omega (
+      arith,
+      made-few (c-args .field .now) (c-loop .number) (c-loop .i) (c-loop .inv) (omega arith),
+      digit-at (c-args .field .now) (c-loop .i)
+          (c-pre .2) (omega arith),
+    )
 
 add-i : tie.Need-add-i Inv-loop μ-loop
 add-i c = search needs

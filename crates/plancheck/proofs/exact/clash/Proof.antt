@@ -37,4 +37,6 @@ returns-4 c =
     record { after = c-pre .0 .2; same = omega arith; left = omega arith; right = omega arith }
 
 pub clash-spec : {M : Type 1} → statement M
-clash-spec = tie.close (tie.spec processor-of-requires processor-of-requires-2 returns end-of-requires start-of-requires returns-2 end-of-requires-2 start-of-requires-2 returns-3 returns-4)
+clash-spec =
+    tie.close (tie.spec processor-of-requires processor-of-requires-2 returns end-of-requires start-of-requires returns-2 end-of-requires-2
+    start-of-requires-2 returns-3 returns-4)

@@ -33,7 +33,8 @@ returns c =
     let c-loop-test = c .before .before .loop-test in
     let c-loop = c .before .before .before .loop in
     let c-args = c .before .before .before .before .before .before .before .args in
-    first-here _ _ _ (c-loop-test .taken) (c-loop .inv .2) (said {P = Clash (now (c-args .times)) (now (c-args .procs)) (now (c-args .starts)) (c-args .i .0) (c-loop .j + 1)} (c .if1 .taken) (c .before .clash .ensures))
+    first-here _ _ _ (c-loop-test .taken) (c-loop .inv .2) (said {P =
+    Clash (now (c-args .times)) (now (c-args .procs)) (now (c-args .starts)) (c-args .i .0) (c-loop .j + 1)} (c .if1 .taken) (c .before .clash .ensures))
 
 loop-less : tie.Need-loop-less Inv-loop μ-loop
 loop-less c = search needs
@@ -41,8 +42,13 @@ loop-less c = search needs
 loop-again : tie.Need-loop-again Inv-loop μ-loop
 loop-again c =
     let c-loop = c .before .before .before .loop in
-    let c-args = c .before .before .before .before .before .before .before .args in
-    (omega arith, omega arith, below-more _ _ (c-loop .inv .2) (unsaid {P = Clash (now (c-args .times)) (now (c-args .procs)) (now (c-args .starts)) (c-args .i .0) (c-loop .j + 1)} (c .if1 .left) (c .before .clash .ensures)))
+    let c-args = c .before .before .before .before .before .before .before .args in (
+      omega arith,
+      omega arith,
+      below-more _ _ (c-loop .inv .2)
+          (unsaid {P = Clash (now (c-args .times)) (now (c-args .procs)) (now (c-args .starts)) (c-args .i .0) (c-loop .j + 1)} (c .if1 .left)
+          (c .before .clash .ensures)),
+    )
 
 returns-2 : tie.Need-returns-2 Inv-loop μ-loop
 returns-2 c =

@@ -44,7 +44,8 @@ loop-again c =
     let c-args = c .before .before .before .before .before .before .before .args in
     let c-loop = c .before .before .before .before .loop in
     let c-start-of = c .before .before .start-of in
-    let more = among-more (now (c-args .times)) (now (c-args .starts)) (c-args .t) (c-loop .j) _ _ _ (c-start-of .ensures) (c .before .end-of .ensures) (c .runs-in .ensures .0) in (omega arith, omega arith, omega arith)
+    let more = among-more (now (c-args .times)) (now (c-args .starts)) (c-args .t) (c-loop .j) _ _ _ (c-start-of .ensures)
+    (c .before .end-of .ensures) (c .runs-in .ensures .0) in (omega arith, omega arith, omega arith)
 
 returns : tie.Need-returns Inv-loop μ-loop
 returns c =

@@ -29,16 +29,30 @@ cast-number : tie.Need-cast-number Inv-loop μ-loop
 cast-number c = search needs
 
 returns : tie.Need-returns Inv-loop μ-loop
-returns c = first-here _ _ _ (c .before .before .before .loop-test .taken) (c .before .before .before .before .loop .inv .1) (λ h. omega (arith, h .low, c .before .before .processor-of .ensures))
+returns c =
+    let c-loop-test = c .before .before .before .loop-test in
+    let c-loop = c .before .before .before .before .loop in
+    let c-processor-of = c .before .before .processor-of in
+    first-here _ _ _ (c-loop-test .taken) (c-loop .inv .1) (λ h. omega (arith, h .low, c-processor-of .ensures))
 
 returns-2 : tie.Need-returns-2 Inv-loop μ-loop
-returns-2 c = first-here _ _ _ (c .before .before .before .before .loop-test .taken) (c .before .before .before .before .before .loop .inv .1) (λ h. omega (arith, h .high, c .before .before .before .processor-of .ensures))
+returns-2 c =
+    let c-loop-test = c .before .before .before .before .loop-test in
+    let c-loop = c .before .before .before .before .before .loop in
+    let c-processor-of = c .before .before .before .processor-of in
+    first-here _ _ _ (c-loop-test .taken) (c-loop .inv .1) (λ h. omega (arith, h .high, c-processor-of .ensures))
 
 loop-less : tie.Need-loop-less Inv-loop μ-loop
 loop-less c = search needs
 
 loop-again : tie.Need-loop-again Inv-loop μ-loop
-loop-again c = (omega arith, below-more _ _ (c .before .before .before .before .before .loop .inv .1) (λ h. h (record { low = omega (arith, c .before .before .before .processor-of .ensures); high = omega (arith, c .before .before .before .processor-of .ensures) })))
+loop-again c =
+    let c-loop = c .before .before .before .before .before .loop in
+    let c-processor-of = c .before .before .before .processor-of in (
+      omega arith,
+      below-more _ _ (c-loop .inv .1)
+          (λ h. h (record { low = omega (arith, c-processor-of .ensures); high = omega (arith, c-processor-of .ensures) })),
+    )
 
 returns-3 : tie.Need-returns-3 Inv-loop μ-loop
 returns-3 c = first-none _ _ _ (c .before .loop .inv .1) (c .loop-test .left)

@@ -76,7 +76,11 @@ loop-again c =
     let c-end-of = c .before .before .before .end-of in
     let c-args = c .before .before .before .before .before .before .before .before .before .args in
     let c-from-at = c .before .before .before .before .from-at in
-    let q = c-pre .0 .named _ (c-loop-test .taken) in (omega arith, latest-more _ _ _ _ _ _ _ _ (c-loop .inv .1) (c-to-at .ensures .0) (omega (arith, q .1 .high, c-pre .0 .count .high)) (c-end-of .ensures ∙ ap (λ (x : ℕ). finishOf (now (c-args .times)) (now (c-args .starts)) x) (c-from-at .ensures .0)) (c .larger .ensures))
+    let q = c-pre .0 .named _ (c-loop-test .taken) in (
+      omega arith,
+      latest-more _ _ _ _ _ _ _ _ (c-loop .inv .1) (c-to-at .ensures .0) (omega (arith, q .1 .high, c-pre .0 .count .high))
+          (c-end-of .ensures ∙ ap (λ (x : ℕ). finishOf (now (c-args .times)) (now (c-args .starts)) x) (c-from-at .ensures .0)) (c .larger .ensures),
+    )
 
 returns : tie.Need-returns Inv-loop μ-loop
 returns c =

@@ -43,7 +43,8 @@ loop-again c =
     let c-args = c .before .before .before .before .before .args in
     let c-loop = c .before .before .before .before .loop in
     let c-index = c .before .before .usize-from-u32 in
-    let full : c-args .s ≤ getD (now (c-args .until)) (c-loop .p + 1) 0 = rw (← c-index .ensures) (c .if1 .left) in (omega arith, full-more (now (c-args .until)) _ _ (c-loop .inv .1) full)
+    let full : c-args .s ≤ getD (now (c-args .until)) (c-loop .p + 1) 0 = rw (← c-index .ensures) (c .if1 .left) in
+    (omega arith, full-more (now (c-args .until)) _ _ (c-loop .inv .1) full)
 
 returns-2 : tie.Need-returns-2 Inv-loop μ-loop
 returns-2 c = inr (refl, λ q a. c .before .loop .inv .1 q (record { low = a .low; high = omega (arith, a .high) }))

@@ -35,8 +35,13 @@ loop-less c = search needs
 loop-again : tie.Need-loop-again Inv-loop μ-loop
 loop-again c =
     let c-args = c .before .before .args in
-    let c-loop = c .before .loop in
-    (omega arith, omega arith, one-filled noArrow (c-args .from) (c-loop .i) (c-args .arrows .now) (c-loop .arrows) (omega arith) (omega arith) (c-loop .inv .2), simp length-set (c-loop .inv .3))
+    let c-loop = c .before .loop in (
+      omega arith,
+      omega arith,
+      one-filled noArrow (c-args .from) (c-loop .i) (c-args .arrows .now) (c-loop .arrows) (omega arith) (omega arith)
+          (c-loop .inv .2),
+      simp length-set (c-loop .inv .3),
+    )
 
 same-length : tie.Need-same-length Inv-loop μ-loop
 same-length c = c .before .loop .inv .3

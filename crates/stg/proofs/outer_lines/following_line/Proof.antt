@@ -26,10 +26,20 @@ refuse-requires : tie.Need-refuse-requires
 refuse-requires c κs = search needs
 
 returns-2 : tie.Need-returns-2
-returns-2 c = follower-some (now (c .before .before .before .before .before .before .args .text)) _ (omega arith) (c .before .before .before .if1 .left) (no-line-end (now (c .before .before .before .before .before .before .args .text)) (c .before .before .before .before .before .before .args .at) _ (omega arith) (c .before .before .next-number .ensures) (c .before .match .keys2))
+returns-2 c =
+    let c-args = c .before .before .before .before .before .before .args in
+    let c-if1 = c .before .before .before .if1 in
+    let c-next-number = c .before .before .next-number in
+    follower-some (now (c-args .text)) _ (omega arith) (c-if1 .left)
+    (no-line-end (now (c-args .text)) (c-args .at) _ (omega arith) (c-next-number .ensures) (c .before .match .keys2))
 
 returns-3 : tie.Need-returns-3
-returns-3 c = follower-blank (now (c .before .before .before .before .before .before .before .args .text)) _ (omega arith) (c .before .before .before .before .if1 .left) _ (seen (now (c .before .before .before .before .before .before .before .args .text)) (c .before .before .before .before .before .before .before .args .at) _ _ (c .before .e .given .1) (omega arith) (c .before .before .before .next-number .ensures))
+returns-3 c =
+    let c-args = c .before .before .before .before .before .before .before .args in
+    let c-if1 = c .before .before .before .before .if1 in
+    let c-next-number = c .before .before .before .next-number in
+    follower-blank (now (c-args .text)) _ (omega arith) (c-if1 .left) _
+    (seen (now (c-args .text)) (c-args .at) _ _ (c .before .e .given .1) (omega arith) (c-next-number .ensures))
 
 pub following-line-spec : {M : Type 1} → statement M
 following-line-spec =

@@ -36,7 +36,8 @@ returns c =
     let c-loop = c .before .before .before .before .loop in
     let c-args = c .before .before .before .before .before .before .args in
     let c-following-line = c .before .before .following-line in
-    c-loop .inv .1 ∙ trailer-stop (c-args .text .now) (c-loop .here) (omega arith) (followed (c-args .text .now) (c-loop .here) _ _ (c .enum-told .given .1) (c-following-line .ensures))
+    c-loop .inv .1 ∙ trailer-stop (c-args .text .now) (c-loop .here) (omega arith)
+    (followed (c-args .text .now) (c-loop .here) _ _ (c .enum-told .given .1) (c-following-line .ensures))
 
 enum-known-e : tie.Need-enum-known-e Inv-loop μ-loop
 enum-known-e c = search needs
@@ -53,7 +54,8 @@ loop-again c =
     let c-args = c .before .before .before .before .before .before .before .args in
     let c-loop = c .before .before .before .before .before .loop in
     let c-following-line = c .before .before .before .following-line in
-    let p = followed (c-args .text .now) (c-loop .here) _ _ (c .before .e .given .1) (c-following-line .ensures) in (p .inside, c-loop .inv .1 ∙ trailer-more (c-args .text .now) (c-loop .here) (omega arith) _ p)
+    let p = followed (c-args .text .now) (c-loop .here) _ _ (c .before .e .given .1) (c-following-line .ensures) in
+    (p .inside, c-loop .inv .1 ∙ trailer-more (c-args .text .now) (c-loop .here) (omega arith) _ p)
 
 returns-2 : tie.Need-returns-2 Inv-loop μ-loop
 returns-2 c =

@@ -24,19 +24,39 @@ enum-known-e : tie.Need-enum-known-e
 enum-known-e c = search needs
 
 may-end-requires : tie.Need-may-end-requires
-may-end-requires c κs = (dummied (now (c .before .before .before .before .before .args .text)) (c .before .before .before .before .before .args .at) (c .before .before .before .before .before .args .i) _ _ (c .before .e .given .1) (c .before .before .before .dummy-line .ensures)) .inside
+may-end-requires c κs =
+    let c-args = c .before .before .before .before .before .args in
+    let c-dummy-line = c .before .before .before .dummy-line in
+    (dummied (now (c-args .text)) (c-args .at) (c-args .i) _ _ (c .before .e .given .1) (c-dummy-line .ensures)) .inside
 
 returns : tie.Need-returns
-returns c = exit-passed (now (c .before .before .before .before .before .before .before .args .text)) (c .before .before .before .before .before .before .before .args .at) (c .before .before .before .before .before .before .before .args .i) (dummied (now (c .before .before .before .before .before .before .before .args .text)) (c .before .before .before .before .before .before .before .args .at) (c .before .before .before .before .before .before .before .args .i) _ _ (c .before .before .before .e .given .1) (c .before .before .before .before .before .dummy-line .ensures)) ∙ told _ _ _ (c .before .may-end .ensures) (c .if1 .taken)
+returns c =
+    let c-args = c .before .before .before .before .before .before .before .args in
+    let c-e = c .before .before .before .e in
+    let c-dummy-line = c .before .before .before .before .before .dummy-line in
+    exit-passed (now (c-args .text)) (c-args .at) (c-args .i)
+    (dummied (now (c-args .text)) (c-args .at) (c-args .i) _ _ (c-e .given .1) (c-dummy-line .ensures))
+    ∙ told _ _ _ (c .before .may-end .ensures) (c .if1 .taken)
 
 refuse-requires : tie.Need-refuse-requires
 refuse-requires c κs = search needs
 
 returns-2 : tie.Need-returns-2
-returns-2 c = exit-refused (now (c .before .before .before .before .before .args .text)) (c .before .before .before .before .before .args .at) (c .before .before .before .before .before .args .i) _ (dummied (now (c .before .before .before .before .before .args .text)) (c .before .before .before .before .before .args .at) (c .before .before .before .before .before .args .i) _ _ (c .before .refusal .given .1) (c .before .before .before .dummy-line .ensures))
+returns-2 c =
+    let c-args = c .before .before .before .before .before .args in
+    let c-dummy-line = c .before .before .before .dummy-line in
+    exit-refused (now (c-args .text)) (c-args .at) (c-args .i) _
+    (dummied (now (c-args .text)) (c-args .at) (c-args .i) _ _ (c .before .refusal .given .1) (c-dummy-line .ensures))
 
 returns-3 : tie.Need-returns-3
-returns-3 c = made (exit-passed (now (c .before .before .before .before .before .before .before .before .args .text)) (c .before .before .before .before .before .before .before .before .args .at) (c .before .before .before .before .before .before .before .before .args .i) (dummied (now (c .before .before .before .before .before .before .before .before .args .text)) (c .before .before .before .before .before .before .before .before .args .at) (c .before .before .before .before .before .before .before .before .args .i) _ _ (c .before .before .before .before .e .given .1) (c .before .before .before .before .before .before .dummy-line .ensures)) ∙ told _ _ _ (c .before .before .may-end .ensures) (c .before .if1 .left)) (c .refuse .ensures)
+returns-3 c =
+    let c-args = c .before .before .before .before .before .before .before .before .args in
+    let c-e = c .before .before .before .before .e in
+    let c-dummy-line = c .before .before .before .before .before .before .dummy-line in
+    let c-may-end = c .before .before .may-end in
+    made (exit-passed (now (c-args .text)) (c-args .at) (c-args .i)
+    (dummied (now (c-args .text)) (c-args .at) (c-args .i) _ _ (c-e .given .1) (c-dummy-line .ensures))
+    ∙ told _ _ _ (c-may-end .ensures) (c .before .if1 .left)) (c .refuse .ensures)
 
 pub take-closing-spec : {M : Type 1} → statement M
 take-closing-spec =

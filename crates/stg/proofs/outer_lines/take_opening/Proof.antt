@@ -36,10 +36,18 @@ returns : tie.Need-returns
 returns c = stepped _ _ _ (c .before .refusal .given .1) (c .before .before .before .first-line .ensures)
 
 returns-2 : tie.Need-returns-2
-returns-2 c = entry-refused (stepped _ _ _ (c .before .before .before .before .before .first .given .1) (c .before .before .before .before .before .before .before .first-line .ensures)) _ (dummied _ _ 0 _ _ (c .before .refusal2 .given .1) (c .before .before .before .dummy-line .ensures))
+returns-2 c =
+    let c-first = c .before .before .before .before .before .first in
+    let c-first-line = c .before .before .before .before .before .before .before .first-line in
+    let c-dummy-line = c .before .before .before .dummy-line in
+    entry-refused (stepped _ _ _ (c-first .given .1) (c-first-line .ensures)) _ (dummied _ _ 0 _ _ (c .before .refusal2 .given .1) (c-dummy-line .ensures))
 
 returns-3 : tie.Need-returns-3
-returns-3 c = opened (stepped _ _ _ (c .before .before .before .before .before .first .given .1) (c .before .before .before .before .before .before .before .first-line .ensures)) (dummied _ _ 0 _ _ (c .before .e .given .1) (c .before .before .before .dummy-line .ensures))
+returns-3 c =
+    let c-first = c .before .before .before .before .before .first in
+    let c-first-line = c .before .before .before .before .before .before .before .first-line in
+    let c-dummy-line = c .before .before .before .dummy-line in
+    opened (stepped _ _ _ (c-first .given .1) (c-first-line .ensures)) (dummied _ _ 0 _ _ (c .before .e .given .1) (c-dummy-line .ensures))
 
 pub take-opening-spec : {M : Type 1} → statement M
 take-opening-spec =

@@ -16,10 +16,14 @@ Inv-loop text at i arrows₀ a here₀ k₀ below₀ b₀ arrows here k below b 
 abbrev μ-loop : tie.MeasureT-loop
 μ-loop text at i arrows₀ a here₀ k₀ below₀ b₀ arrows here k below b = length text - here
 
-passed : (c : tie.After-p Inv-loop μ-loop) → Passed (c .before .before .before .before .before .args .text .now) (c .before .before .before .loop .here) (c .p .given .0 .0) (c .p .given .0 .1 .0)
+passed : (c : tie.After-p Inv-loop μ-loop) →
+    let c-args = c .before .before .before .before .before .args in
+    let c-loop = c .before .before .before .loop in
+    Passed (c-args .text .now) (c-loop .here) (c .p .given .0 .0) (c .p .given .0 .1 .0)
 passed c =
     let c-loop = c .before .before .before .loop in
-    seen (c .before .before .before .before .before .args .text .now) (c-loop .here) _ _ (c .p .given .1) (omega arith) (c .before .before .next-number .ensures)
+    seen (c .before .before .before .before .before .args .text .now) (c-loop .here) _ _ (c .p .given .1) (omega arith)
+    (c .before .before .next-number .ensures)
 
 loop-holds : tie.Need-loop-holds Inv-loop μ-loop
 loop-holds c =
@@ -79,8 +83,11 @@ loop-again c =
     let c-args = c .before .before .before .before .before .before .before .before .before .before .args in
     let c-loop = c .before .before .before .before .before .before .before .before .loop in
     let c-still-below = c .before .before .before .still-below in
-    let c-add-arrow = c .before .add-arrow in
-    (passing-more (c-loop .inv .0) (passed (c .before .before .before .before .before)) (c-still-below .ensures) (c-add-arrow .ensures), c .arrows .given ∙ c-loop .inv .1)
+    let c-add-arrow = c .before .add-arrow in (
+      passing-more (c-loop .inv .0) (passed (c .before .before .before .before .before)) (c-still-below .ensures) (c-add-arrow .ensures),
+      c .arrows
+          .given ∙ c-loop .inv .1,
+    )
 
 pub take-predecessors-spec : {M : Type 1} → statement M
 take-predecessors-spec =

@@ -27,7 +27,11 @@ same-length : tie.Need-same-length
 same-length c = search needs
 
 returns : tie.Need-returns
-returns c = λ k. made (subtask-bad (now (c .before .before .before .before .before .before .before .before .args .text)) (c .before .before .before .before .before .before .before .before .args .at) (c .before .before .before .before .before .before .before .before .args .j) (tasked (now (c .before .before .before .before .before .before .before .before .args .text)) (c .before .before .before .before .before .before .before .before .args .at) (c .before .before .before .before .before .before .before .before .args .j + 1) _ _ _ _ _ (c .before .enum-told .given .1) (c .before .before .before .before .task-line .ensures)) k) (c .refuse .ensures)
+returns c =
+    let c-args = c .before .before .before .before .before .before .before .before .args in
+    let c-task-line = c .before .before .before .before .task-line in
+    λ k. made (subtask-bad (now (c-args .text)) (c-args .at) (c-args .j)
+    (tasked (now (c-args .text)) (c-args .at) (c-args .j + 1) _ _ _ _ _ (c .before .enum-told .given .1) (c-task-line .ensures)) k) (c .refuse .ensures)
 
 refuse-requires-2 : tie.Need-refuse-requires-2
 refuse-requires-2 c κs = search needs
@@ -36,7 +40,13 @@ same-length-2 : tie.Need-same-length-2
 same-length-2 c = search needs
 
 returns-2 : tie.Need-returns-2
-returns-2 c = λ k. made (subtask-long (now (c .before .before .before .before .before .before .before .before .before .before .args .text)) (c .before .before .before .before .before .before .before .before .before .before .args .at) (c .before .before .before .before .before .before .before .before .before .before .args .j) (tasked (now (c .before .before .before .before .before .before .before .before .before .before .args .text)) (c .before .before .before .before .before .before .before .before .before .before .args .at) (c .before .before .before .before .before .before .before .before .before .before .args .j + 1) _ _ _ _ _ (c .before .before .before .line .given .1) (c .before .before .before .before .before .before .task-line .ensures)) (c .before .if1 .taken) k) (c .refuse2 .ensures)
+returns-2 c =
+    let c-args = c .before .before .before .before .before .before .before .before .before .before .args in
+    let c-line = c .before .before .before .line in
+    let c-task-line = c .before .before .before .before .before .before .task-line in
+    λ k. made (subtask-long (now (c-args .text)) (c-args .at) (c-args .j)
+    (tasked (now (c-args .text)) (c-args .at) (c-args .j + 1) _ _ _ _ _ (c-line .given .1) (c-task-line .ensures)) (c .before .if1 .taken) k) (c
+    .refuse2 .ensures)
 
 narrow-requires : tie.Need-narrow-requires
 narrow-requires c κs = omega arith
@@ -54,7 +64,13 @@ same-length-4 : tie.Need-same-length-4
 same-length-4 c = search needs
 
 returns-3 : tie.Need-returns-3
-returns-3 c = subtask-is (now (c .before .before .before .before .before .before .before .before .before .before .args .text)) (c .before .before .before .before .before .before .before .before .before .before .args .at) (c .before .before .before .before .before .before .before .before .before .before .args .j) (tasked (now (c .before .before .before .before .before .before .before .before .before .before .args .text)) (c .before .before .before .before .before .before .before .before .before .before .args .at) (c .before .before .before .before .before .before .before .before .before .before .args .j + 1) _ _ _ _ _ (c .before .before .before .line .given .1) (c .before .before .before .before .before .before .task-line .ensures)) (now (c .before .before .before .before .before .before .before .before .before .before .args .times)) (c .narrow .result) (omega arith) (c .narrow .ensures)
+returns-3 c =
+    let c-args = c .before .before .before .before .before .before .before .before .before .before .args in
+    let c-line = c .before .before .before .line in
+    let c-task-line = c .before .before .before .before .before .before .task-line in
+    subtask-is (now (c-args .text)) (c-args .at) (c-args .j)
+    (tasked (now (c-args .text)) (c-args .at) (c-args .j + 1) _ _ _ _ _ (c-line .given .1) (c-task-line .ensures)) (now (c-args .times))
+    (c .narrow .result) (omega arith) (c .narrow .ensures)
 
 pub take-subtask-spec : {M : Type 1} → statement M
 take-subtask-spec =

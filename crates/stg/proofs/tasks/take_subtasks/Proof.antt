@@ -16,7 +16,8 @@ stepped : (text : List ℕ) (at j a : ℕ) (ts : List ℕ) (ar : List (List ℕ)
 stepped text at j a ts ar ts′ ar′ r x e h = rw e at h
 
 abbrev Inv-loop : tie.InvT-loop
-Inv-loop text at n times₀ arrows₀ here₀ a₀ j₀ times arrows here a j = (SubtasksLeft text at n times₀ arrows₀ here a j times arrows) × (length times ≡ length times₀) × (length arrows ≡ length arrows₀)
+Inv-loop text at n times₀ arrows₀ here₀ a₀ j₀ times arrows here a j =
+    (SubtasksLeft text at n times₀ arrows₀ here a j times arrows) × (length times ≡ length times₀) × (length arrows ≡ length arrows₀)
 
 abbrev μ-loop : tie.MeasureT-loop
 μ-loop text at n times₀ arrows₀ here₀ a₀ j₀ times arrows here a j = n - j
@@ -31,13 +32,19 @@ enum-known-refusal : tie.Need-enum-known-refusal Inv-loop μ-loop
 enum-known-refusal c = search needs
 
 same-length : tie.Need-same-length Inv-loop μ-loop
-same-length c = c .before .before .before .before .before .times .given ∙ c .before .before .before .before .before .before .before .before .before .before .loop .inv .1
+same-length c =
+    let c-times = c .before .before .before .before .before .times in
+    let c-loop = c .before .before .before .before .before .before .before .before .before .before .loop in
+    c-times .given ∙ c-loop .inv .1
 
 same-length-2 : tie.Need-same-length-2 Inv-loop μ-loop
 same-length-2 c = c .before .before .before .arrows .given ∙ c .before .before .before .before .before .before .before .before .before .before .loop .inv .2
 
 returns : tie.Need-returns Inv-loop μ-loop
-returns c = left-bad (c .before .before .before .before .before .before .before .before .before .before .loop .inv .0) _ (omega arith) (stepped _ _ _ _ _ _ _ _ _ _ (c .before .refusal .given .1) (c .before .before .before .before .before .before .take-subtask .ensures))
+returns c =
+    let c-loop = c .before .before .before .before .before .before .before .before .before .before .loop in
+    let c-take-subtask = c .before .before .before .before .before .before .take-subtask in
+    left-bad (c-loop .inv .0) _ (omega arith) (stepped _ _ _ _ _ _ _ _ _ _ (c .before .refusal .given .1) (c-take-subtask .ensures))
 
 enum-known-far : tie.Need-enum-known-far Inv-loop μ-loop
 enum-known-far c = search needs
@@ -49,7 +56,16 @@ loop-less : tie.Need-loop-less Inv-loop μ-loop
 loop-less c = omega arith
 
 loop-again : tie.Need-loop-again Inv-loop μ-loop
-loop-again c = (left-more (c .before .before .before .before .before .before .before .before .before .before .loop .inv .0) (omega arith) (stepped _ _ _ _ _ _ _ _ _ _ (c .before .far .given .1) (c .before .before .before .before .before .before .take-subtask .ensures)), c .before .before .before .before .before .times .given ∙ c .before .before .before .before .before .before .before .before .before .before .loop .inv .1, c .before .before .before .arrows .given ∙ c .before .before .before .before .before .before .before .before .before .before .loop .inv .2)
+loop-again c =
+    let c-loop = c .before .before .before .before .before .before .before .before .before .before .loop in
+    let c-take-subtask = c .before .before .before .before .before .before .take-subtask in
+    let c-times = c .before .before .before .before .before .times in
+    let c-arrows = c .before .before .before .arrows in (
+      left-more (c-loop .inv .0) (omega arith) (stepped _ _ _ _ _ _ _ _ _ _ (c .before .far .given .1) (c-take-subtask .ensures)),
+      c-times .given ∙
+          c-loop .inv .1,
+      c-arrows .given ∙ c-loop .inv .2,
+    )
 
 same-length-3 : tie.Need-same-length-3 Inv-loop μ-loop
 same-length-3 c = c .before .loop .inv .1
