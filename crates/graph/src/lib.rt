@@ -36,7 +36,8 @@ fn check_arrows(
 ) -> Check
     requires { ⌜ Accepted (subtaskRows (now times)) × Accepted (sizeRows (now arrows)) ⌝ }
     requires { ⌜ (now first ≡ replicate 257 0) × (length (now next) ≡ 2048) × (length (now order) ≡ 256) ⌝ }
-    ensures { λ r. ⌜ Finds (arrowRows (now (times .entry)) (now (arrows .entry))) (now (times .entry)) (now (arrows .entry)) (now (first .exit)) (now (next .exit)) (now (order .exit)) r ⌝ }
+    ensures { λ r. ⌜ Finds (arrowRows (now (times .entry)) (now (arrows .entry)))
+        (now (times .entry)) (now (arrows .entry)) (now (first .exit)) (now (next .exit)) (now (order .exit)) r ⌝ }
 {
     let n = times.len();
     if faults(n, arrows) != 0 {
@@ -64,7 +65,8 @@ fn check_and_order(
     order: &mut [u16; 256],
 ) -> Check
     requires { ⌜ (now first ≡ replicate 257 0) × (length (now next) ≡ 2048) × (length (now order) ≡ 256) ⌝ }
-    ensures { λ r. ⌜ Finds (graphRows (now (times .entry)) (now (arrows .entry))) (now (times .entry)) (now (arrows .entry)) (now (first .exit)) (now (next .exit)) (now (order .exit)) r ⌝ }
+    ensures { λ r. ⌜ Finds (graphRows (now (times .entry)) (now (arrows .entry)))
+        (now (times .entry)) (now (arrows .entry)) (now (first .exit)) (now (next .exit)) (now (order .exit)) r ⌝ }
 {
     match check_subtasks(times) {
         Check::Refused(refusal) => Check::Refused(refusal),

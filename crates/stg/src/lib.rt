@@ -36,7 +36,8 @@ fn read_tasks(
     arrows: &mut [[u16; 2]],
 ) -> Counts
     requires { ⌜ (at ≤ length (now text)) × Among 1 256 n × (256 ≤ length (now times)) ⌝ }
-    ensures { λ r. ⌜ Leaves (now (times .entry)) (now (arrows .entry)) (taskLines 1 n (lines (drop at (now (text .entry))))) (now (times .exit)) (now (arrows .exit)) r ⌝ }
+    ensures { λ r. ⌜ Leaves (now (times .entry)) (now (arrows .entry)) (taskLines 1 n (lines (drop at (now (text .entry)))))
+        (now (times .exit)) (now (arrows .exit)) r ⌝ }
 {
     match take_subtasks(text, at, n, times, arrows) {
         Step::Refused(refusal) => Counts::Refused(refusal),
@@ -93,7 +94,8 @@ fn check_room(times: usize, arrows: usize, text: usize) -> Check
 
 // The reader, but for the places past the last time and the last arrow; with a refusal the rows may hold anything.
 fn read_graph(text: &[u8], times: &mut [u16], arrows: &mut [[u16; 2]]) -> Counts
-    ensures { λ r. ⌜ TellsOf (readText (length (now (times .entry))) (length (now (arrows .entry))) (now (text .entry))) (now (times .exit)) (now (arrows .exit)) r ⌝ }
+    ensures { λ r. ⌜ TellsOf (readText (length (now (times .entry))) (length (now (arrows .entry))) (now (text .entry)))
+        (now (times .exit)) (now (arrows .exit)) r ⌝ }
 {
     match check_room(times.len(), arrows.len(), text.len()) {
         Check::Refused(refusal) => Counts::Refused(refusal),

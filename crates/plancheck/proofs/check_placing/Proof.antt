@@ -104,14 +104,15 @@ returns-3 c =
 passes-sweep-requires : tie.Need-passes-sweep-requires
 passes-sweep-requires c κs = sweepable (known (c .before))
 
+-- what a sweep that comes to its end shows
+swept : (c : tie.Then4) →
+    let c-args = c .before .before .before .before .before .before .before .before .before .before .before .before .before .before .before .before .before .before .args in
+    ApartAndBusy (now (c-args .times)) (c-args .m) (now (c-args .procs)) (now (c-args .starts)) (c .before .before .before .before .before .before .before .latest-ends .last .1 .1 .1 .0)
+swept c = shown (c .if4 .taken) (c .before .passes-sweep .ensures)
+
 returns-4 : tie.Need-returns-4
 unfolding IsCheck
-returns-4 c =
-    let k = known (c .before .before .before) in
-    let none : ApartAndBusy
-    (now (c .before .before .before .before .before .before .before .before .before .before .before .before .before .before .before .before .before .before .args .times)) (c .before .before .before .before .before .before .before .before .before .before .before .before .before .before .before .before .before .before .args .m) (now (c .before .before .before .before .before .before .before .before .before .before .before .before .before .before .before .before .before .before .args .procs)) (now (c .before .before .before .before .before .before .before .before .before .before .before .before .before .before .before .before .before .before .args .starts)) (c .before .before .before .before .before .before .before .latest-ends .last .1 .1 .1 .0) =
-    shown (c .if4 .taken) (c .before .passes-sweep .ensures) in
-    accepted-busy k (busy-swept k none)
+returns-4 c = accepted-busy (known (c .before .before .before)) (busy-swept (known (c .before .before .before)) (swept c))
 
 first-sharing-requires : tie.Need-first-sharing-requires
 first-sharing-requires c κs =
