@@ -43,9 +43,14 @@ soonest-none U = record { least = λ p a. absurd (omega (arith, a .low, a .high)
 
 pub soonest-more : {U : List ℕ} {p e f : ℕ} → Soonest U p e → f ≡ min e (getD U (p + 1) 0) → Soonest U (p + 1) f
 soonest-more {U} {p} {e} {f} h m = record {
-  least = λ i a. by-cases (ℕ-discrete i (p + 1)) (λ q. rw q (omega arith)) (λ q. omega (arith, h .least i (record { low = a .low; high = omega (arith, a .high) })));
+  least = λ i a. by-cases (ℕ-discrete i (p + 1))
+      (λ q. rw q (omega arith))
+      (λ q. omega (arith, h .least i (record { low = a .low; high = omega (arith, a .high) })));
   reached = λ n. by-cases (decLe e (getD U (p + 1) 0))
-      (λ l. let same : f ≡ e = omega arith in let r = h .reached (λ q. n (same ∙ q)) in (r .0, record { low = r .1 .low; high = omega (arith, r .1 .high) }, r .2 ∙ sym same))
+      (λ l.
+      let same : f ≡ e = omega arith in
+      let r = h .reached (λ q. n (same ∙ q)) in
+      (r .0, record { low = r .1 .low; high = omega (arith, r .1 .high) }, r .2 ∙ sym same))
       (λ l. (p + 1, record { low = omega arith; high = omega arith }, omega arith));
 }
 
@@ -120,7 +125,8 @@ module _ {R G : List ℕ} {x : ℕ} (l : x < 256) (e : length R ≡ 256) (g : Gr
   pub grouped-last : {y : ℕ} → NoneBelow (IsMarked R) 256 x → NoOther (set R x 0) x y → x / 16 * 16 + 16 ≤ y → Grouped (set R x 0) (set G (x / 16) 0)
   grouped-last before u m = record {
     long = length-set G (x / 16) 0 ∙ g .long;
-    none = λ z b. read-set (λ k. k ≡ 0 → getD (set R x 0) z 0 ≢ 1) G (x / 16) 0 (z / 16) (omega (arith, g .long)) (λ q _. inside z q) (λ q f. fewer z (g .none z b f));
+    none = λ z b. read-set (λ k. k ≡ 0 → getD (set R x 0) z 0 ≢ 1) G (x / 16) 0 (z / 16) (omega (arith, g .long))
+        (λ q _. inside z q) (λ q f. fewer z (g .none z b f));
   }
     where
       inside : (z : ℕ) → z / 16 ≡ x / 16 → getD (set R x 0) z 0 ≢ 1

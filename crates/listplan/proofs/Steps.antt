@@ -31,9 +31,11 @@ toDo times t L W P = (totalWork times - t) + 2 * noughts P + (17 - noughts W) + 
 
 -- over the values at a turn: the input, the tables that stay, the clock and the cursor, the tables that change, where the scans begin
 abbrev pub OfTurn : Type 1
-OfTurn = (times : List ℕ) (arrows : List (List ℕ)) (order : List ℕ) (M : ℕ) (first next rank : List ℕ) (t c : ℕ) (L R G U W P S : List ℕ) (due free low : ℕ) → Type 0
+OfTurn = (times : List ℕ) (arrows : List (List ℕ)) (order : List ℕ) (M : ℕ) (first next rank : List ℕ) (t c : ℕ) (L R G U W P S : List ℕ) (due free low : ℕ)
+    → Type 0
 
-module _ (times : List ℕ) (arrows : List (List ℕ)) (order : List ℕ) (M : ℕ) (first next rank : List ℕ) (t c : ℕ) (L R G U W P S : List ℕ) (due free low : ℕ) where
+module _ (times : List ℕ) (arrows : List (List ℕ)) (order : List ℕ) (M : ℕ) (first next rank : List ℕ) (t c : ℕ) (L R G U W P S : List ℕ)
+    (due free low : ℕ) where
   -- an arrow is to be counted off
   pub record Counts : Type 0 where
     pub job : Job times arrows order M first next rank
@@ -47,19 +49,21 @@ module _ (times : List ℕ) (arrows : List (List ℕ)) (order : List ℕ) (M : �
     pub none : c ≡ 0
     pub within : due ≤ M
 
-  -- none ends; x is the place in the order of what is to go, p the free processor
-  pub record Seeks (x p : ℕ) : Type 0 where
-    pub job : Job times arrows order M first next rank
-    pub now : Following times arrows order M t c L R G U W P S due free low
-    pub none : c ≡ 0
-    pub over : M < due
-    pub one : 1 ≤ p
-    pub to-go : ToGo R M p (length order) x
-    pub first-free : FirstBelow (IsFree W) (M + 1) p
+-- none ends; x is the place in the order of what is to go, p the free processor
+pub record Seeks (x p : ℕ) (times : List ℕ) (arrows : List (List ℕ)) (order : List ℕ) (M : ℕ) (first next rank : List ℕ) (t c : ℕ) (L R G U W P S : List ℕ)
+    (due free low : ℕ) : Type 0 where
+  pub job : Job times arrows order M first next rank
+  pub now : Following times arrows order M t c L R G U W P S due free low
+  pub none : c ≡ 0
+  pub over : M < due
+  pub one : 1 ≤ p
+  pub to-go : ToGo R M p (length order) x
+  pub first-free : FirstBelow (IsFree W) (M + 1) p
 
 -- ---- the ways round
 
-module _ {times : List ℕ} {arrows : List (List ℕ)} {order : List ℕ} {M : ℕ} {first next rank : List ℕ} {t c : ℕ} {L R G U W P S : List ℕ} {due free low : ℕ} where
+module _ {times : List ℕ} {arrows : List (List ℕ)} {order : List ℕ} {M : ℕ} {first next rank : List ℕ} {t c : ℕ} {L R G U W P S : List ℕ}
+    {due free low : ℕ} where
   -- an arrow is counted off
   module _ (at : Counts times arrows order M first next rank t c L R G U W P S due free low) where
     abbrev j : ℕ
@@ -84,7 +88,15 @@ module _ {times : List ℕ} {arrows : List (List ℕ)} {order : List ℕ} {M : �
         let r = counted (at .job) (now .making) (at .some) e off (now .grouped) (now .unmarked) in
         let sum : tally (λ x. x) L′ (length times) + getD L j 0 ≡ tally (λ x. x) L (length times) + (getD L j 0 - 1) =
         rw (off .fewer) (tally-set (λ x. x) L j _ (length times) s (omega (arith, now .making .lefts .long, arrow-fits .1))) in (
-          record { making = r .0; grouped = r .1; unmarked = r .2; due-one = now .due-one; first-due = now .first-due; free-one = now .free-one; busy = now .busy },
+          record {
+            making = r .0;
+            grouped = r .1;
+            unmarked = r .2;
+            due-one = now .due-one;
+            first-due = now .first-due;
+            free-one = now .free-one;
+            busy = now .busy;
+          },
           omega (arith, arrow-fits .2, sum),
         )
 
@@ -118,7 +130,7 @@ module _ {times : List ℕ} {arrows : List (List ℕ)} {order : List ℕ} {M : �
         )
 
   -- none ends
-  module _ {x p : ℕ} (at : Seeks times arrows order M first next rank t c L R G U W P S due free low x p) where
+  module _ {x p : ℕ} (at : Seeks x p times arrows order M first next rank t c L R G U W P S due free low) where
     job : Job times arrows order M first next rank
     job = at .job
 
@@ -146,10 +158,10 @@ module _ {times : List ℕ} {arrows : List (List ℕ)} {order : List ℕ} {M : �
           (omega (arith, pm .high, job .within .high), l, record { within = omega arith; none = first-mark .before .none })
 
       pub step-started : {j : ℕ} {R′ G′ P′ S′ U′ W′ : List ℕ} → j ≡ getD order x 0 → (R′ ≡ set R x 0) × Grouped R′ G′
-          → (P′ ≡ set P (j - 1) p) × (S′ ≡ set S (j - 1) t) → (U′ ≡ set U p (t + timeOf times j)) × (W′ ≡ set W p j)
+          → (P′ ≡ set P (j - 1) p) × ((S′ ≡ set S (j - 1) t) × ((U′ ≡ set U p (t + timeOf times j)) × (W′ ≡ set W p j)))
           → Following times arrows order M t c L R′ G′ U′ W′ P′ S′ due p (x + 1) × (toDo times t L W′ P′ < toDo times t L W P)
       unfolding toDo itemOf
-      step-started {j} {G′ = G′} e g rows tables =
+      step-started {j} {G′ = G′} e g (processors, (starts, (until, who))) =
           let s : IsSubtask times j = rw e (job .isOrder .each x inside) in
           let o = opened job mk₀ later first-mark (at .first-free) inside pm e in
           let f = nobody job mk₀ later first-mark (at .first-free) inside pm e in
@@ -157,7 +169,7 @@ module _ {times : List ℕ} {arrows : List (List ℕ)} {order : List ℕ} {M : �
           let nw = noughts-filled W p j (omega (arith, mk₀ .holders .long-who, job .within .high, pm .high)) (f .nobody) (s .low) in
           let g′ : Grouped (set R x 0) G′ = rw (g .0) at (g .1) in
           let all : due ≡ M + 1 = omega (arith, at .now .first-due .before .within, at .over) in
-          rw (g .0, rows .0, rows .1, tables .0, tables .1, at .none)
+          rw (g .0, processors, starts, until, who, at .none)
           (started job mk₀ later first-mark (at .first-free) inside pm e g′ all, omega (arith, np, nw, noughts-most W, mk₀ .holders .long-who))
 
     -- the clock moves, or all is over

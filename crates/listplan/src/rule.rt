@@ -39,7 +39,8 @@ fn count_off(
     requires { ⌜ toOf (now arrows) place < 257 ⌝ }
     requires { ⌜ (length (now rank) ≡ 257) × (length (now left) ≡ 257) × (length (now ready) ≡ 256) × (length (now groups) ≡ 16) ⌝ }
     requires { ⌜ (1 ≤ getD (now left) (toOf (now arrows) place) 0) × (getD (now rank) (toOf (now arrows) place) 0 < 256) ⌝ }
-    ensures { λ r. ⌜ CountedOff (now (arrows .entry)) (now (rank .entry)) (now (left .entry)) (now (ready .entry)) (now (groups .entry)) (now (left .exit)) (now (ready .exit)) (now (groups .exit)) place low r ⌝ }
+    ensures { λ r. ⌜ CountedOff (now (arrows .entry)) (now (rank .entry)) (now (left .entry)) (now (ready .entry)) (now (groups .entry))
+        (now (left .exit)) (now (ready .exit)) (now (groups .exit)) place low r ⌝ }
 {
     let j = to_at(arrows, place).0;
     let rest = left[j] - 1;
@@ -87,8 +88,10 @@ fn start_on(
 )
     requires { ⌜ IsSubtask (now times) (subtask .0) × (length (now times) ≤ 256) × (processor .0 < 17) × (t ≤ 16776960) ⌝ }
     requires { ⌜ Sizes (now times) (now processors) (now starts) × (length (now until) ≡ 17) × (length (now who) ≡ 17) ⌝ }
-    ensures { λ _. ⌜ (now (processors .exit) ≡ set (now (processors .entry)) (subtask .0 - 1) (processor .0)) × (now (starts .exit) ≡ set (now (starts .entry)) (subtask .0 - 1) t) ⌝ }
-    ensures { λ _. ⌜ (now (until .exit) ≡ set (now (until .entry)) (processor .0) (t + timeOf (now (times .entry)) (subtask .0))) × (now (who .exit) ≡ set (now (who .entry)) (processor .0) (subtask .0)) ⌝ }
+    ensures { λ _. ⌜ now (processors .exit) ≡ set (now (processors .entry)) (subtask .0 - 1) (processor .0) ⌝ }
+    ensures { λ _. ⌜ now (starts .exit) ≡ set (now (starts .entry)) (subtask .0 - 1) t ⌝ }
+    ensures { λ _. ⌜ now (until .exit) ≡ set (now (until .entry)) (processor .0) (t + timeOf (now (times .entry)) (subtask .0)) ⌝ }
+    ensures { λ _. ⌜ now (who .exit) ≡ set (now (who .entry)) (processor .0) (subtask .0) ⌝ }
 {
     let j = subtask.0;
     let p = usize_from_u8(processor.0);
@@ -116,7 +119,9 @@ fn follow_rule(
     starts: &mut [u32],
 )
     requires { ⌜ Job (now times) (now arrows) (now order) m (now first) (now next) (now rank) ⌝ }
-    requires { ⌜ Making (now times) (now arrows) (now order) m 0 0 (now left) (now ready) (replicate 17 never) (replicate 17 0) (now processors) (now starts) × Grouped (now ready) (now groups) ⌝ }
+    requires { ⌜ Making (now times) (now arrows) (now order) m 0 0 (now left) (now ready) (replicate 17 never) (replicate 17 0)
+        (now processors) (now starts) ⌝ }
+    requires { ⌜ Grouped (now ready) (now groups) ⌝ }
     ensures { λ _. ⌜ IsListPlan (now (times .entry)) (now (arrows .entry)) (now (order .entry)) m (entries (now (processors .exit)) (now (starts .exit))) ⌝ }
     ensures { λ _. ⌜ Sizes (now (times .entry)) (now (processors .exit)) (now (starts .exit)) ⌝ }
 {

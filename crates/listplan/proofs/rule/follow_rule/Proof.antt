@@ -1,13 +1,17 @@
 -- `follow_rule`: each way round keeps what holds and leaves less to do; at the end the rows hold the list plan. Assumes nothing.
 use mathlib.Core.Path.{sym, _∙_}
 use native.Mathlib.Omega.{arith}
+use Prim.Native.Nat.{_<_}
 use lib.ListN.{length-set}
 use denote.Ref.{now}
 use Rattle.theory.proofs.Rounds.{both}
+use Rattle.theory.specs.First.{NoneBelow}
+use Rattle.listplan.specs.Making.{IsMarked}
 use Rattle.listplan.proofs.Following.{Following}
 use Rattle.listplan.proofs.Scans.{none-due}
 use Rattle.listplan.proofs.Beginning.{begins}
-use Rattle.listplan.proofs.Steps.{toDo, OfTurn, Counts, Ends, Seeks, arrow-fits, step-counted, holder-fits, next-due, step-ended, starter-fits, step-started, step-moved, finished}
+use Rattle.listplan.proofs.Steps.{toDo, OfTurn, Counts, Ends, Seeks, arrow-fits, holder-fits, next-due, starter-fits}
+use Rattle.listplan.proofs.Steps.{step-counted, step-ended, step-started, step-moved, finished}
 use Rattle.listplan.proofs.rule.follow_rule.Statement.{statement}
 use Rattle.listplan.proofs.rule.follow_rule.Tie as tie
 
@@ -45,7 +49,12 @@ counting c = c .before .before .before .before
 ends : (c : tie.Then2 Inv-loop μ-loop) → At Ends (c .before .before .before)
 ends c =
     let turn = c .before .before .before in
-    record { job = start turn .pre .0; now = turn .loop .inv; none = c .before .before .if1 .left; within = omega (arith, c .if2 .taken, c .before .usize-from-u8 .ensures .0) }
+    record {
+      job = start turn .pre .0;
+      now = turn .loop .inv;
+      none = c .before .before .if1 .left;
+      within = omega (arith, c .if2 .taken, c .before .usize-from-u8 .ensures .0);
+    }
 
 abbrev ending : tie.After-end-on Inv-loop μ-loop → tie.Then2 Inv-loop μ-loop
 ending c = c .before .before .before
@@ -55,7 +64,7 @@ abbrev seeking : tie.After-first-free Inv-loop μ-loop → tie.At-loop Inv-loop 
 seeking c = c .before .before .before .before .before
 
 seeks : (c : tie.After-next-to-go Inv-loop μ-loop)
-    → At (λ times arrows order M first next rank t c′ L R G U W P S due free low. Seeks times arrows order M first next rank t c′ L R G U W P S due free low (c .next-to-go .result) (c .before .before .before .first-free .result .0)) (seeking (c .before .before .before))
+    → At (Seeks (c .next-to-go .result) (c .before .before .before .first-free .result .0)) (seeking (c .before .before .before))
 seeks c =
     let free = c .before .before .before in
     let none = free .before .before in
@@ -70,8 +79,15 @@ seeks c =
     }
 
 -- one goes
-abbrev going : tie.After-start-on Inv-loop μ-loop → tie.Then3 Inv-loop μ-loop
-going c = c .before .before .before .before .before .before
+abbrev goes : tie.After-start-on Inv-loop μ-loop → tie.After-subtask-at Inv-loop μ-loop
+goes c = c .before .before .before .before .before
+
+abbrev gone : tie.After-unmark-arg2 Inv-loop μ-loop → tie.After-start-on Inv-loop μ-loop
+gone c = c .before .before .before .before .before .before
+
+fits : (c : tie.Then3 Inv-loop μ-loop) → (c .before .before .before .before .first-free .result .0 < 17) × (c .before .next-to-go .result < 256)
+    × NoneBelow (IsMarked (seeking (c .before .before .before .before) .loop .ready)) 256 (c .before .next-to-go .result)
+fits c = starter-fits (seeks (c .before)) (c .if3 .taken)
 
 -- none can go
 abbrev staying : tie.After-soonest-end Inv-loop μ-loop → tie.Else3 Inv-loop μ-loop
@@ -155,30 +171,32 @@ subtask-at-requires c κs = tt
 
 start-on-requires : tie.Need-start-on-requires Inv-loop μ-loop
 start-on-requires c κs =
-    let subtask = c .before .before .before .before in
-    let goes = subtask .before in
-    let at = seeks (goes .before) in
+    let one = c .before .before .before .before in
+    let at = seeks (one .before .before) in
     let making = at .now .making in (
-      (rw (subtask .subtask-at .ensures .0) (at .job .isOrder .each _ (goes .if3 .taken)), at .job .graph .count .high, starter-fits at (goes .if3 .taken) .0, omega (arith, making .early, at .job .work)),
+      (
+        rw (one .subtask-at .ensures .0) (at .job .isOrder .each _ (one .before .if3 .taken)),
+        at .job .graph .count .high,
+        fits (one .before) .0,
+        omega (arith, making .early, at .job .work),
+      ),
       (making .sizes, making .holders .long-until, making .holders .long-who),
     )
 
 unmark-requires : tie.Need-unmark-requires Inv-loop μ-loop
 unmark-requires c κs =
-    let goes = going (c .before .before .before .before .before .before) in
-    let at = seeks (goes .before) in
-    let fits = starter-fits at (goes .if3 .taken) in
-    (fits .1, at .now .making .marks .long, at .now .grouped, fits .2)
+    let one = goes (gone c) .before in
+    let at = seeks (one .before) in
+    (fits one .1, at .now .making .marks .long, at .now .grouped, fits one .2)
 
 add-low : tie.Need-add-low Inv-loop μ-loop
-add-low c = let goes = going (c .before .before .before .before .before .before .before) in omega (arith, starter-fits (seeks (goes .before)) (goes .if3 .taken) .1)
+add-low c = omega (arith, fits (goes (gone (c .before)) .before) .1)
 
 starts-one : tie.Need-loop-again-3 Inv-loop μ-loop × tie.Need-loop-less-3 Inv-loop μ-loop
 starts-one = both (λ c.
-    let put = c .before .before .before .before .before .before .before in
-    let goes = going put in
-    let subtask = put .before .before .before .before .before in
-    step-started (seeks (goes .before)) (goes .if3 .taken) (subtask .subtask-at .ensures .0) (c .unmark .ensures) (put .start-on .ensures .0) (put .start-on .ensures .1))
+    let put = gone (c .before) in
+    let one = goes put in
+    step-started (seeks (one .before .before)) (one .before .if3 .taken) (one .subtask-at .ensures .0) (c .unmark .ensures) (put .start-on .ensures))
 
 soonest-end-requires : tie.Need-soonest-end-requires Inv-loop μ-loop
 soonest-end-requires c κs = let at = seeks (c .before .before) in (at .job .within, at .now .making .holders .long-until)

@@ -58,7 +58,7 @@ same-length-2 : tie.Need-same-length-2
 same-length-2 c = search needs
 
 returns : tie.Need-returns
-returns c = ((refl, refl), rw (c .before .usize-from-u8 .ensures .0, c .time-of .ensures .is (start (c .before) .pre .0 .0)) (refl, refl))
+returns c = (refl, (refl, rw (c .before .usize-from-u8 .ensures .0, c .time-of .ensures .is (start (c .before) .pre .0 .0)) (refl, refl)))
 
 pub start-on-spec : {M : Type 1} → statement M
 start-on-spec =
