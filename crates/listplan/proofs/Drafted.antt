@@ -1,9 +1,9 @@
 -- The draft: the list plan with its end, or the refusal of the table. Assumes nothing.
-use mathlib.Core.Path.{_≡_, refl, sym, ap, _∙_}
+use mathlib.Core.Path.{_≡_, refl, sym, _∙_}
 use mathlib.Core.List.{List}
 use Prim.Native.Nat.{ℕ, _≤_, _<_, min}
 use native.Mathlib.Omega.{arith}
-use lib.ListN.{length, take, replicate, length-replicate, getD-replicate}
+use lib.ListN.{length, take, length-replicate, getD-replicate}
 use Rattle.terms.specs.Rows.{Accepted, RefusedBy, refusalOf}
 use Rattle.terms.specs.Graphs.{Among, In16Bits}
 use Rattle.terms.specs.Plans.{notPlaced, EndsAt}

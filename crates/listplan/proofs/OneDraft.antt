@@ -2,7 +2,7 @@
 use mathlib.Core.Path.{_≡_, refl, sym, ap, _∙_}
 use mathlib.Core.List.{List}
 use Prim.Native.Nat.{ℕ}
-use lib.ListN.{length, getD, take}
+use lib.ListN.{take}
 use lib.Seq.{ext-getD}
 use Rattle.terms.specs.Plans.{notPlaced}
 use Rattle.terms.specs.Refusals.{listRows}

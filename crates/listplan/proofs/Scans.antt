@@ -7,7 +7,6 @@ use native.Mathlib.Omega.{arith}
 use native.Mathlib.Decide.{decLe, ℕ-discrete}
 use lib.ListN.{length, getD, set, length-set}
 use borrow.Author.Count.{below-more}
-use Rattle.terms.specs.Graphs.{Among}
 use Rattle.theory.specs.First.{NoneBelow, FirstBelow}
 use Rattle.theory.proofs.Stores.{read-set}
 use Rattle.forms.specs.Forms.{never}
