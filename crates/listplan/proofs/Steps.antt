@@ -17,6 +17,7 @@ use Rattle.forms.specs.Forms.{never, entries, itemOf}
 use Rattle.listplan.specs.Tables.{Grouped}
 use Rattle.listplan.specs.Making.{Job, Making, IsMarked, IsFree, IsDue, ToGo, Soonest, CountedOff}
 use Rattle.listplan.proofs.Following.{Following}
+use Rattle.listplan.proofs.Scans.{soonest-due}
 use Rattle.listplan.proofs.Ready.{still}
 use Rattle.listplan.proofs.Starting.{started, opened, nobody}
 use Rattle.listplan.proofs.Ending.{somebody, who-small, in-who, due-after, ended}
@@ -173,25 +174,24 @@ module _ {times : List ℕ} {arrows : List (List ℕ)} {order : List ℕ} {M : �
           (started job mk₀ later first-mark (at .first-free) inside pm e g′ all, omega (arith, np, nw, noughts-most W, mk₀ .holders .long-who))
 
     -- the clock moves, or all is over
-    module _ (outside : length order ≤ x) {e : ℕ} (soon : Soonest U M e) where
+    module _ (outside : length order ≤ x) {p′ e : ℕ} (soon : Soonest U M p′) (end : e ≡ getD U p′ 0) where
       quiet : ¬ IdleAt times arrows M (entries P S) t
       quiet = still job mk₀ later refl (at .to-go) (at .first-free) outside
 
-      pub step-moved : {due′ : ℕ} → e ≢ never → (1 ≤ due′) × FirstBelow (IsDue U e) (M + 1) due′
-          → Following times arrows order M e c L R G U W P S due′ p low × (toDo times e L W P < toDo times t L W P)
+      pub step-moved : e ≢ never → Following times arrows order M e c L R G U W P S p′ p low × (toDo times e L W P < toDo times t L W P)
       unfolding toDo
-      step-moved d f = rw (at .none) (
+      step-moved d = rw (at .none) (
         record {
-          making = moved job mk₀ quiet soon later d;
+          making = moved job mk₀ quiet soon end later d;
           grouped = at .now .grouped;
           unmarked = at .now .unmarked;
-          due-one = f .0;
-          first-due = f .1;
+          due-one = soon .within .low;
+          first-due = rw end (soonest-due soon);
           free-one = at .one;
           busy = at .first-free .before;
         },
-        omega (arith, ahead job mk₀ quiet soon later d, no-later job mk₀ quiet soon later d),
+        omega (arith, ahead job mk₀ quiet soon end later d, no-later job mk₀ quiet soon end later d),
       )
 
       pub finished : e ≡ never → IsListPlan times arrows order M (entries P S)
-      finished z = all-gone job mk₀ quiet soon z
+      finished z = all-gone job mk₀ quiet soon end z

@@ -1,8 +1,8 @@
 // The list rule at work: from one end to the next.
 use crate::scan::first_due;
 use crate::scan::first_free;
+use crate::scan::first_to_end;
 use crate::scan::next_to_go;
-use crate::scan::soonest_end;
 use crate::scan::unmark;
 use crate::tables::chain_arrows;
 use crate::tables::mark;
@@ -162,11 +162,11 @@ fn follow_rule(
             low = x + 1;
             continue;
         }
-        t = soonest_end(&until, m);
+        due = first_to_end(&until, m);
+        t = until[usize_from_u8(due.0)];
         if t == NEVER {
             return;
         }
-        due = first_due(&until, m, t, Processor(1));
     }
 }
 

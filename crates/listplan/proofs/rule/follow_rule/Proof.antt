@@ -1,14 +1,14 @@
 -- `follow_rule`: each way round keeps what holds and leaves less to do; at the end the rows hold the list plan. Assumes nothing.
-use mathlib.Core.Path.{sym, _∙_}
+use mathlib.Core.Path.{_≡_, sym, ap, _∙_}
+use mathlib.Core.List.{List}
 use native.Mathlib.Omega.{arith}
-use Prim.Native.Nat.{_<_}
-use lib.ListN.{length-set}
+use Prim.Native.Nat.{ℕ, _<_}
+use lib.ListN.{getD, length-set}
 use denote.Ref.{now}
 use Rattle.theory.proofs.Rounds.{both}
 use Rattle.theory.specs.First.{NoneBelow}
 use Rattle.listplan.specs.Making.{IsMarked}
 use Rattle.listplan.proofs.Following.{Following}
-use Rattle.listplan.proofs.Scans.{none-due}
 use Rattle.listplan.proofs.Beginning.{begins}
 use Rattle.listplan.proofs.Steps.{toDo, OfTurn, Counts, Ends, Seeks, arrow-fits, holder-fits, next-due, starter-fits}
 use Rattle.listplan.proofs.Steps.{step-counted, step-ended, step-started, step-moved, finished}
@@ -90,8 +90,20 @@ fits : (c : tie.Then3 Inv-loop μ-loop) → (c .before .before .before .before .
 fits c = starter-fits (seeks (c .before)) (c .if3 .taken)
 
 -- none can go
-abbrev staying : tie.After-soonest-end Inv-loop μ-loop → tie.Else3 Inv-loop μ-loop
-staying c = c .before .before
+abbrev staying : tie.After-usize-from-u82 Inv-loop μ-loop → tie.Else3 Inv-loop μ-loop
+staying c = c .before .before .before
+
+first-in : (c : tie.After-usize-from-u82 Inv-loop μ-loop) → c .usize-from-u82 .result < 17
+first-in c =
+    let soon = c .before .first-to-end .ensures in
+    omega (arith, c .usize-from-u82 .ensures .0, soon .within .high, seeks (staying c .before) .job .within .high)
+
+abbrev ends-there : tie.After-usize-from-u82 Inv-loop μ-loop → List ℕ
+ends-there c = seeking (staying c .before .before .before .before) .loop .until
+
+its-end : (c : tie.After-usize-from-u82 Inv-loop μ-loop)
+    → getD (ends-there c) (c .usize-from-u82 .result) 0 ≡ getD (ends-there c) (c .before .first-to-end .result .0) 0
+its-end c = ap (λ (p : ℕ). getD (ends-there c) p 0) (c .usize-from-u82 .ensures .0)
 
 -- ---- what is asked at each
 
@@ -198,8 +210,17 @@ starts-one = both (λ c.
     let one = goes put in
     step-started (seeks (one .before .before)) (one .before .if3 .taken) (one .subtask-at .ensures .0) (c .unmark .ensures) (put .start-on .ensures))
 
-soonest-end-requires : tie.Need-soonest-end-requires Inv-loop μ-loop
-soonest-end-requires c κs = let at = seeks (c .before .before) in (at .job .within, at .now .making .holders .long-until)
+first-to-end-requires : tie.Need-first-to-end-requires Inv-loop μ-loop
+first-to-end-requires c κs = let at = seeks (c .before .before) in (at .job .within, at .now .making .holders .long-until)
+
+usize-from-u8-requires-2 : tie.Need-usize-from-u8-requires-2 Inv-loop μ-loop
+usize-from-u8-requires-2 c κs = tt
+
+mul-t : tie.Need-mul-t Inv-loop μ-loop
+mul-t c = omega (arith, first-in c)
+
+array-read-t : tie.Need-array-read-t Inv-loop μ-loop
+array-read-t c = first-in c
 
 same-length : tie.Need-same-length Inv-loop μ-loop
 same-length c =
@@ -215,18 +236,12 @@ returns : tie.Need-returns Inv-loop μ-loop
 returns c =
     let stays = staying (c .before) in
     let at = seeks (stays .before) in
-    (finished at (stays .if3 .left) (c .before .soonest-end .ensures) (c .if4 .taken), at .now .making .sizes)
-
-first-due-requires-2 : tie.Need-first-due-requires-2 Inv-loop μ-loop
-first-due-requires-2 c κs =
-    let at = seeks (staying (c .before .before) .before) in
-    (at .job .within, at .now .making .holders .long-until, omega arith, none-due (omega arith))
+    (finished at (stays .if3 .left) (c .before .before .first-to-end .ensures) (its-end (c .before)) (c .if4 .taken), at .now .making .sizes)
 
 moves : tie.Need-loop-again-4 Inv-loop μ-loop × tie.Need-loop-less-4 Inv-loop μ-loop
 moves = both (λ c.
-    let soon = c .before .before in
-    let stays = staying (soon .before) in
-    step-moved (seeks (stays .before)) (stays .if3 .left) (soon .before .soonest-end .ensures) (soon .if4 .left) (c .first-due2 .ensures))
+    let stays = staying (c .before) in
+    step-moved (seeks (stays .before)) (stays .if3 .left) (c .before .before .first-to-end .ensures) (its-end (c .before)) (c .if4 .left))
 
 pub follow-rule-spec : {M : Type 1} → statement M
 follow-rule-spec =
@@ -259,10 +274,12 @@ follow-rule-spec =
     add-low
     (starts-one .1)
     (starts-one .0)
-    soonest-end-requires
+    first-to-end-requires
+    usize-from-u8-requires-2
+    mul-t
+    array-read-t
     same-length
     same-length-2
     returns
-    first-due-requires-2
     (moves .1)
     (moves .0))
