@@ -43,13 +43,17 @@ loop-less : tie.Need-loop-less Inv-loop μ-loop
 loop-less c = omega arith
 
 loop-again : tie.Need-loop-again Inv-loop μ-loop
-loop-again c = let so-far = c .before .before .before .before .loop .inv in (omega arith, soonest-new (so-far .1) (omega (arith, c .before .if1 .taken, so-far .2)), refl)
+loop-again c =
+    let so-far = c .before .before .before .before .loop .inv in
+    (omega arith, soonest-new (so-far .1) (omega (arith, c .before .if1 .taken, so-far .2)), refl)
 
 loop-less-2 : tie.Need-loop-less-2 Inv-loop μ-loop
 loop-less-2 c = omega arith
 
 loop-again-2 : tie.Need-loop-again-2 Inv-loop μ-loop
-loop-again-2 c = let so-far = c .before .before .before .loop .inv in (omega arith, soonest-still (so-far .1) (omega (arith, c .if1 .left, so-far .2)), so-far .2)
+loop-again-2 c =
+    let so-far = c .before .before .before .loop .inv in
+    (omega arith, soonest-still (so-far .1) (omega (arith, c .if1 .left, so-far .2)), so-far .2)
 
 cast-t18 : tie.Need-cast-t18 Inv-loop μ-loop
 cast-t18 c = omega (arith, few (c .before), c .before .loop .inv .1 .within .high)

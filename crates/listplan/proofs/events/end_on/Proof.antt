@@ -4,8 +4,8 @@ use Prim.Native.Nat.{ℕ, _<_}
 use native.Mathlib.Omega.{arith}
 use lib.ListN.{getD}
 use denote.Ref.{now}
-use Rattle.listplan.proofs.rule.end_on.Statement.{statement}
-use Rattle.listplan.proofs.rule.end_on.Tie as tie
+use Rattle.listplan.proofs.events.end_on.Statement.{statement}
+use Rattle.listplan.proofs.events.end_on.Tie as tie
 
 on-in : (c : tie.After-usize-from-u8) → c .usize-from-u8 .result < 17
 on-in c = rw (c .usize-from-u8 .ensures .0) (c .before .pre .0 .0)

@@ -3,8 +3,8 @@ use mathlib.Core.Path.{refl}
 use Prim.Native.Nat.{_<_}
 use native.Mathlib.Omega.{arith}
 use borrow.Author.Needs.{needs}
-use Rattle.listplan.proofs.rule.start_on.Statement.{statement}
-use Rattle.listplan.proofs.rule.start_on.Tie as tie
+use Rattle.listplan.proofs.events.start_on.Statement.{statement}
+use Rattle.listplan.proofs.events.start_on.Tie as tie
 
 abbrev start : tie.After-usize-from-u8 → tie.Start
 start c = c .before .before .before .before

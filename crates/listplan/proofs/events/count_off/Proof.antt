@@ -5,8 +5,8 @@ use native.Mathlib.Omega.{arith}
 use denote.Ref.{now}
 use Rattle.terms.specs.Graphs.{toOf}
 use Rattle.listplan.proofs.CountingOff.{counted-off}
-use Rattle.listplan.proofs.rule.count_off.Statement.{statement}
-use Rattle.listplan.proofs.rule.count_off.Tie as tie
+use Rattle.listplan.proofs.events.count_off.Statement.{statement}
+use Rattle.listplan.proofs.events.count_off.Tie as tie
 
 to : (c : tie.After-to-at) → c .to-at .result .0 ≡ toOf (now (c .before .args .arrows)) (c .before .args .place)
 to c = c .to-at .ensures .0
