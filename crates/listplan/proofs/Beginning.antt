@@ -2,7 +2,7 @@
 use mathlib.Core.Path.{_≡_}
 use mathlib.Core.Logic.{by-cases}
 use mathlib.Core.List.{List}
-use Prim.Native.Nat.{ℕ, _+_, _-_, _≤_, _<_}
+use Prim.Native.Nat.{ℕ, _+_, _-_, _<_}
 use native.Mathlib.Omega.{arith}
 use native.Mathlib.Decide.{decLe}
 use lib.ListN.{length, getD, replicate, length-replicate, getD-replicate}
@@ -33,7 +33,8 @@ distinct g o = record {
 }
 
 module _ {times : List ℕ} {arrows : List (List ℕ)} {order : List ℕ} {M : ℕ} {first next rank : List ℕ} (job : Job times arrows order M first next rank) where
-  pub nothing-placed : {L R P S : List ℕ} → ArrowsTo arrows L (length arrows) → Sources order L R (length order) → P ≡ replicate (length times) 0 → S ≡ replicate (length times) 0
+  pub nothing-placed : {L R P S : List ℕ} → ArrowsTo arrows L (length arrows) → Sources order L R (length order)
+      → P ≡ replicate (length times) 0 → S ≡ replicate (length times) 0
       → Making times arrows order M 0 0 L R (replicate 17 never) (replicate 17 0) P S
   unfolding itemOf
   nothing-placed {L} {R} {P} {S} arrive sources e f = record {
@@ -50,7 +51,8 @@ module _ {times : List ℕ} {arrows : List (List ℕ)} {order : List ℕ} {M : �
     };
     lefts = record {
       long = arrive .long;
-      count = λ k r. count-same _ _ (length arrows) (getD L k 0) (λ a l h. (h, all a)) (λ a l h. h .0) (arrive .count k (omega (arith, r .high, job .graph .count .high)));
+      count = λ k r. count-same _ _ (length arrows) (getD L k 0) (λ a l h. (h, all a)) (λ a l h. h .0)
+          (arrive .count k (omega (arith, r .high, job .graph .count .high)));
     };
     marks = record {
       long = sources .long;
@@ -85,7 +87,9 @@ module _ {times : List ℕ} {arrows : List (List ℕ)} {order : List ℕ} {M : �
     first-due = record {
       before = record {
         within = omega arith;
-        none = λ k l d. let e : _≡_ {A = ℕ} (getD (replicate 17 never) k 0) never = getD-replicate 17 k never 0 (omega (arith, job .within .high)) in omega (arith, d .by);
+        none = λ k l d.
+            let e : _≡_ {A = ℕ} (getD (replicate 17 never) k 0) never = getD-replicate 17 k never 0 (omega (arith, job .within .high)) in
+            omega (arith, d .by);
       };
       here = λ l. absurd (omega arith);
     };

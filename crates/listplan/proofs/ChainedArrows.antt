@@ -18,7 +18,8 @@ pub record Chained (arrows : List (List ℕ)) (first next left : List ℕ) (i : 
   pub chains : Chains (fromOf arrows) first next i
   pub counts : ArrowsTo arrows left i
 
-pub chained-none : {arrows : List (List ℕ)} {first next left : List ℕ} → first ≡ replicate 257 0 → length next ≡ 2048 → left ≡ replicate 257 0 → Chained arrows first next left 0
+pub chained-none : {arrows : List (List ℕ)} {first next left : List ℕ} → first ≡ replicate 257 0 → length next ≡ 2048 → left ≡ replicate 257 0
+    → Chained arrows first next left 0
 unfolding Count
 chained-none {arrows} {first} {next} f n e = record {
   within = omega arith;

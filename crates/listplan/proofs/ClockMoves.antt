@@ -1,5 +1,5 @@
 -- The clock moves to the soonest end; where there is none the plan is made. Assumes nothing.
-use mathlib.Core.Path.{_≡_, sym, _∙_}
+use mathlib.Core.Path.{_≡_, _∙_}
 use mathlib.Core.Logic.{_≢_, by-cases}
 use mathlib.Core.List.{List}
 use Prim.Native.Nat.{ℕ, suc, _≤_, _<_}
@@ -18,7 +18,7 @@ use Rattle.listplan.proofs.Ready.{processor-is, end-is, so-far, in-rang
 
 module _ {times : List ℕ} {arrows : List (List ℕ)} {order : List ℕ} {M : ℕ} {first next rank : List ℕ} (job : Job times arrows order M first next rank)
     {t : ℕ} {L R U W P S : List ℕ} (mk : Making times arrows order M t 0 L R U W P S)
-    (still : ¬ IdleAt times arrows M (entries P S) t) {e : ℕ} (soon : Soonest U M e) where
+    (still : ¬ IdleAt times arrows M (entries P S) t) {p e : ℕ} (soon : Soonest U M p) (at : e ≡ getD U p 0) where
   -- what runs on ends no sooner
   no-sooner : (j : ℕ) → IsSubtask times j → Placed (entries P S) j → t < endOf times (entries P S) j → e ≤ endOf times (entries P S) j
   no-sooner j s b l = by-cases (ℕ-discrete (getD W (itemOf P j) 0) j)
@@ -38,15 +38,14 @@ module _ {times : List ℕ} {arrows : List (List ℕ)} {order : List ℕ} {M : �
 
   module _ (later : (p : ℕ) → Among 1 M p → t < getD U p 0) (some : e ≢ never) where
     pub ahead : t < e
-    ahead = let r = soon .reached some in omega (arith, later (r .0) (r .1), r .2)
+    ahead = omega (arith, later p (soon .within))
 
     pub no-later : e ≤ totalWork times
     no-later =
-        let r = soon .reached some in
-        let k = getD W (r .0) 0 in
-        let somebody : 1 ≤ k = by-cases (decLe 1 k) (λ l. l) (λ l. absurd (some (sym (r .2) ∙ mk .holders .nobody (r .0) (r .1) (omega arith)))) in
-        let h = mk .holders .holder (r .0) (r .1) somebody in
-        omega (arith, ends-by k (h .isSubtask) (omega (arith, h .on, r .1 .low, processor-is job mk k)), end-is job mk k, h .ends, r .2)
+        let k = getD W p 0 in
+        let somebody : 1 ≤ k = by-cases (decLe 1 k) (λ l. l) (λ l. absurd (some (at ∙ mk .holders .nobody p (soon .within) (omega arith)))) in
+        let h = mk .holders .holder p (soon .within) somebody in
+        omega (arith, ends-by k (h .isSubtask) (omega (arith, h .on, soon .within .low, processor-is job mk k)), end-is job mk k, h .ends)
 
     pub moved : Making times arrows order M e 0 L R U W P S
     moved = record {

@@ -18,8 +18,9 @@ use Rattle.listplan.specs.Making.{Job, Holding, unended, uncounted, Open
 use Rattle.listplan.proofs.Scans.{marked-low}
 
 -- as the code has it
-pub counted-off : {arrows : List (List ℕ)} {rank L R G R′ G′ : List ℕ} {a j x low low′ : ℕ} → j ≡ toOf arrows a → x ≡ getD rank j 0 → MarkedIf (getD L j 0 - 1) R G R′ G′ x
-    → (getD L j 0 - 1 ≡ 0 → low′ ≡ min low x) → (getD L j 0 - 1 ≢ 0 → low′ ≡ low) → CountedOff arrows rank L R G (set L j (getD L j 0 - 1)) R′ G′ a low low′
+pub counted-off : {arrows : List (List ℕ)} {rank L R G R′ G′ : List ℕ} {a j x low low′ : ℕ} → j ≡ toOf arrows a → x ≡ getD rank j 0
+    → MarkedIf (getD L j 0 - 1) R G R′ G′ x → (getD L j 0 - 1 ≡ 0 → low′ ≡ min low x) → (getD L j 0 - 1 ≢ 0 → low′ ≡ low)
+    → CountedOff arrows rank L R G (set L j (getD L j 0 - 1)) R′ G′ a low low′
 counted-off {arrows} {rank} {L} {R} {G} {R′} {G′} {a} {j} {x} e f m lower kept =
     let f′ : x ≡ getD rank (toOf arrows a) 0 = rw e at f in
     let m′ : MarkedIf (getD L (toOf arrows a) 0 - 1) R G R′ G′ x = rw e at m in
@@ -138,11 +139,15 @@ module _ {times : List ℕ} {arrows : List (List ℕ)} {order : List ℕ} {M : �
           (λ d. mk .marks .marked y l (open-back (getD order y 0) d o));
     }
 
-    module _ {G L′ R′ G′ : List ℕ} {low low′ : ℕ} (off : CountedOff arrows rank L R G L′ R′ G′ (c - 1) low low′) (g : Grouped R G) (u : NoneBelow (IsMarked R) (length order) low) where
+    module _ {G L′ R′ G′ : List ℕ} {low low′ : ℕ} (off : CountedOff arrows rank L R G L′ R′ G′ (c - 1) low low′) (g : Grouped R G)
+        (u : NoneBelow (IsMarked R) (length order) low) where
       marks : Marks arrows order c′ P W R′ × Grouped R′ G′ × NoneBelow (IsMarked R′) (length order) low′
       marks = by-cases (ℕ-discrete (getD L j 0) 1)
           (λ z. let r = off .marked .ifSo (omega arith) in rw (r .0, r .1, off .lower (omega arith)) (marks-last z, grouped, marked-low R in-ready u))
-          (λ z. let none : getD L j 0 - 1 ≢ 0 = omega (arith, left-some) in let r = off .marked .ifNot none in rw (r .0, r .1, off .kept none) (marks-more z, g, u))
+          (λ z.
+          let none : getD L j 0 - 1 ≢ 0 = omega (arith, left-some) in
+          let r = off .marked .ifNot none in
+          rw (r .0, r .1, off .kept none) (marks-more z, g, u))
         where
           grouped : Grouped (set R x 1) (set G (x / 16) 1)
           grouped = record {

@@ -1,9 +1,9 @@
 -- The draft: the list plan with its end, or the refusal of the table. Assumes nothing.
-use mathlib.Core.Path.{_≡_, refl, sym, ap, _∙_}
+use mathlib.Core.Path.{_≡_, refl, sym, _∙_}
 use mathlib.Core.List.{List}
 use Prim.Native.Nat.{ℕ, _≤_, _<_, min}
 use native.Mathlib.Omega.{arith}
-use lib.ListN.{length, take, replicate, length-replicate, getD-replicate}
+use lib.ListN.{length, take, length-replicate, getD-replicate}
 use Rattle.terms.specs.Rows.{Accepted, RefusedBy, refusalOf}
 use Rattle.terms.specs.Graphs.{Among, In16Bits}
 use Rattle.terms.specs.Plans.{notPlaced, EndsAt}
@@ -30,8 +30,8 @@ use Rattle.listplan.specs.declared.Draft.{Draft}
 
 -- ---- the plan
 
-module _ {times : List ℕ} {arrows : List (List ℕ)} {M : ℕ} {order P S : List ℕ} (bits : In16Bits times) (g : SoundGraph times arrows) (m : Among 1 16 M) (o : IsOrder times order)
-    (plan : IsListPlan times arrows order M (entries P S)) (z : Sizes times P S) where
+module _ {times : List ℕ} {arrows : List (List ℕ)} {M : ℕ} {order P S : List ℕ} (bits : In16Bits times) (g : SoundGraph times arrows) (m : Among 1 16 M)
+    (o : IsOrder times order) (plan : IsListPlan times arrows order M (entries P S)) (z : Sizes times P S) where
   same-length : length P ≡ length S
   same-length = z .long-processors ∙ sym (z .long-starts)
 
@@ -44,7 +44,8 @@ module _ {times : List ℕ} {arrows : List (List ℕ)} {M : ℕ} {order P S : Li
   pub end-small : {E : ℕ} → E ≡ lastEnd times S (min (length times) (length S)) → E ≤ 16776960
   end-small e =
       let r = ends .reached in
-      let q = ends-early times arrows M g (plan .clock) (entries P S) (m .low) (by-rule times arrows M g order o (plan .made)) (r .0) (r .1) (plan .all (r .0) (r .1)) in
+      let so-far = by-rule times arrows M g order o (plan .made) in
+      let q = ends-early times arrows M g (plan .clock) (entries P S) (m .low) so-far (r .0) (r .1) (plan .all (r .0) (r .1)) in
       omega (arith, rw upto at e, q, r .2, total-small g bits)
 
   -- the plan check of it replies its end
@@ -63,7 +64,8 @@ module _ {times : List ℕ} {arrows : List (List ℕ)} {M : ℕ} {order P S : Li
 -- ---- the refusals
 
 module _ (times : List ℕ) (arrows : List (List ℕ)) (M : ℕ) (order : List ℕ) (room : ℕ) where
-  pub refused-on : {r : Check} {refusal : Refusal} → r ≡ check.Refused refusal → IsCheck (onRows times arrows M) r → RefusedBy (listRows times arrows M order room) refusal
+  pub refused-on : {r : Check} {refusal : Refusal} → r ≡ check.Refused refusal → IsCheck (onRows times arrows M) r
+      → RefusedBy (listRows times arrows M order room) refusal
   unfolding IsCheck listRows
   refused-on {refusal = refusal} e c = refused-first (onRows times arrows M) (orderRows times order room) refusal (rw e at c)
 
@@ -86,13 +88,16 @@ module _ (times : List ℕ) (arrows : List (List ℕ)) (M : ℕ) (order : List �
     planned-draft o l w = record { drafted = rw (w .reply) (done (past (past on-passed (λ n. n o)) (λ n. omega arith)), w .holds); table = w .table }
 
   -- a refusal writes nothing
-  pub refused-draft : {refusal : Refusal} {d : Draft} → IsRefused refusal d → RefusedBy (listRows times arrows M order room) refusal → IsDraft times arrows M order room d
+  pub refused-draft : {refusal : Refusal} {d : Draft} → IsRefused refusal d → RefusedBy (listRows times arrows M order room) refusal
+      → IsDraft times arrows M order room d
   unfolding IsDrafted
   refused-draft w r = record {
     drafted = rw (w .reply) (r, w .none);
-    table = rw (w .none, w .table) (record { long = length-replicate {A = Entry} 256 notPlaced; held = λ k l. getD-replicate {A = Entry} 256 k notPlaced notPlaced l });
+    table = rw (w .none, w .table)
+        (record { long = length-replicate {A = Entry} 256 notPlaced; held = λ k l. getD-replicate {A = Entry} 256 k notPlaced notPlaced l });
   }
 
-pub told-sound : (times : List ℕ) (arrows : List (List ℕ)) (M : ℕ) {r : Check} → r ≡ check.Sound → IsCheck (onRows times arrows M) r → Accepted (onRows times arrows M)
+pub told-sound : (times : List ℕ) (arrows : List (List ℕ)) (M : ℕ) {r : Check} → r ≡ check.Sound → IsCheck (onRows times arrows M) r
+    → Accepted (onRows times arrows M)
 unfolding IsCheck
 told-sound times arrows M e c = rw e at c

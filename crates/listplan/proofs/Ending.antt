@@ -106,7 +106,9 @@ module _ {times : List ℕ} {arrows : List (List ℕ)} {order : List ℕ} {M : �
               on = r .on;
               ends = read-set (λ y. finishOf times S (getD W k 0) ≡ y) U p never k in-until (λ e. absurd (h e)) (λ _. r .ends);
             });
-        ended = λ k r h. by-cases (ℕ-discrete k (getD W p 0)) (λ e. rw e (omega (arith, holder .ends))) (λ d. mk .holders .ended k r (λ u. h (unended-keep k d u)));
+        ended = λ k r h. by-cases (ℕ-discrete k (getD W p 0))
+            (λ e. rw e (omega (arith, holder .ends)))
+            (λ d. mk .holders .ended k r (λ u. h (unended-keep k d u)));
       };
       lefts = record {
         long = mk .lefts .long;

@@ -2,7 +2,7 @@
 use mathlib.Core.Path.{_≡_, refl, sym, ap, _∙_}
 use mathlib.Core.List.{List}
 use Prim.Native.Nat.{ℕ}
-use lib.ListN.{length, getD, take}
+use lib.ListN.{take}
 use lib.Seq.{ext-getD}
 use Rattle.terms.specs.Plans.{notPlaced}
 use Rattle.terms.specs.Refusals.{listRows}
@@ -24,7 +24,8 @@ one-table {plan} {T} {Z} a b = ext-getD notPlaced T Z (a .long ∙ sym (b .long)
 
 module _ (times : List ℕ) (arrows : List (List ℕ)) (M : ℕ) (order : List ℕ) (room : ℕ) where
   -- one reply, one count, one front of the table
-  same : (a b : PlanEnd) (T Z : List Entry) (n k : ℕ) → IsDrafted times arrows M order room T n a → IsDrafted times arrows M order room Z k b → (a ≡ b) × (n ≡ k) × (take n T ≡ take k Z)
+  same : (a b : PlanEnd) (T Z : List Entry) (n k : ℕ) → IsDrafted times arrows M order room T n a → IsDrafted times arrows M order room Z k b
+      → (a ≡ b) × (n ≡ k) × (take n T ≡ take k Z)
   unfolding IsDrafted IsChecked
   same (Ends E) (Ends F) T Z n k (p, h) (q, i) =
       let s = sound-list times arrows M order room p in
@@ -40,5 +41,6 @@ module _ (times : List ℕ) (arrows : List (List ℕ)) (M : ℕ) (order : List �
       let s = same (d .reply) (f .reply) (d .entries) (f .entries) (d .n) (f .n) (p .drafted) (q .drafted) in
       whole (s .0) (one-table (rw (s .2) at (p .table)) (q .table)) (s .1)
     where
-      whole : {a b : PlanEnd} {T Z : List Entry} {n k : ℕ} → a ≡ b → T ≡ Z → n ≡ k → _≡_ {A = Draft} (record { reply = a; entries = T; n = n }) (record { reply = b; entries = Z; n = k })
+      whole : {a b : PlanEnd} {T Z : List Entry} {n k : ℕ} → a ≡ b → T ≡ Z → n ≡ k
+          → _≡_ {A = Draft} (record { reply = a; entries = T; n = n }) (record { reply = b; entries = Z; n = k })
       whole e f g = rw (e, f, g) refl

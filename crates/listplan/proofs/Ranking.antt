@@ -113,5 +113,8 @@ pub ranked-all : {order left rank R G : List ℕ} {x : ℕ} → Ranked order lef
 ranked-all {order} {x = x} h m =
     let e : length order ≡ x = omega (arith, h .within) in (
       rw e (h .ranks),
-      (rw e (h .sources), record { long = h .long; none = λ y l f. by-cases (decLt y x) (λ m. h .none y m f) (λ m w. omega (arith, h .blank y (omega arith))) }),
+      (
+        rw e (h .sources),
+        record { long = h .long; none = λ y l f. by-cases (decLt y x) (λ m. h .none y m f) (λ m w. omega (arith, h .blank y (omega arith))) },
+      ),
     )

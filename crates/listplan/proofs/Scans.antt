@@ -1,5 +1,5 @@
 -- The scans over the processors and over the places of the order, turn by turn. Assumes nothing.
-use mathlib.Core.Path.{_≡_, refl, sym, _∙_}
+use mathlib.Core.Path.{_≡_, _∙_}
 use mathlib.Core.Logic.{_≢_, by-cases}
 use mathlib.Core.List.{List}
 use Prim.Native.Nat.{ℕ, _+_, _*_, _/_, _≤_, _<_, min}
@@ -10,7 +10,6 @@ use borrow.Author.Count.{below-more}
 use Rattle.terms.specs.Graphs.{Among}
 use Rattle.theory.specs.First.{NoneBelow, FirstBelow}
 use Rattle.theory.proofs.Stores.{read-set}
-use Rattle.forms.specs.Forms.{never}
 use Rattle.listplan.specs.Tables.{Grouped}
 use Rattle.listplan.specs.Making.{IsMarked, IsFree, IsDue, Soonest}
 
@@ -34,20 +33,41 @@ none-found h l = record { before = h; here = λ m. absurd (omega arith) }
 pub none-free : {W : List ℕ} {n : ℕ} → 1 ≤ n → NoneBelow (IsFree W) n 1
 none-free l = record { within = l; none = λ p b f. omega (arith, f .one) }
 
-pub none-due : {U : List ℕ} {t n : ℕ} → 1 ≤ n → NoneBelow (IsDue U t) n 1
-none-due l = record { within = l; none = λ p b f. omega (arith, f .one) }
-
--- the soonest end of the first p
-pub soonest-none : (U : List ℕ) → Soonest U 0 never
-soonest-none U = record { least = λ p a. absurd (omega (arith, a .low, a .high)); reached = λ h. absurd (h refl) }
-
-pub soonest-more : {U : List ℕ} {p e f : ℕ} → Soonest U p e → f ≡ min e (getD U (p + 1) 0) → Soonest U (p + 1) f
-soonest-more {U} {p} {e} {f} h m = record {
-  least = λ i a. by-cases (ℕ-discrete i (p + 1)) (λ q. rw q (omega arith)) (λ q. omega (arith, h .least i (record { low = a .low; high = omega (arith, a .high) })));
-  reached = λ n. by-cases (decLe e (getD U (p + 1) 0))
-      (λ l. let same : f ≡ e = omega arith in let r = h .reached (λ q. n (same ∙ q)) in (r .0, record { low = r .1 .low; high = omega (arith, r .1 .high) }, r .2 ∙ sym same))
-      (λ l. (p + 1, record { low = omega arith; high = omega arith }, omega arith));
+-- the soonest end of the first k
+pub soonest-one : {U : List ℕ} → Soonest U 1 1
+soonest-one = record {
+  within = record { low = omega arith; high = omega arith };
+  least = λ q a. let e : q ≡ 1 = omega (arith, a .low, a .high) in rw e (omega arith);
+  first = λ q a l. absurd (omega (arith, a .low));
 }
+
+module _ {U : List ℕ} {k p : ℕ} (h : Soonest U k p) where
+  below : {q : ℕ} → Among 1 (k + 1) q → q ≢ k + 1 → Among 1 k q
+  below a d = record { low = a .low; high = omega (arith, a .high) }
+
+  pub soonest-new : getD U (k + 1) 0 < getD U p 0 → Soonest U (k + 1) (k + 1)
+  soonest-new l = record {
+    within = record { low = omega arith; high = omega arith };
+    least = λ q a. by-cases (ℕ-discrete q (k + 1)) (λ e. rw e (omega arith)) (λ d. omega (arith, h .least q (below a d)));
+    first = λ q a m. omega (arith, h .least q (below a (omega arith)));
+  }
+
+  pub soonest-still : getD U p 0 ≤ getD U (k + 1) 0 → Soonest U (k + 1) p
+  soonest-still l = record {
+    within = record { low = h .within .low; high = omega (arith, h .within .high) };
+    least = λ q a. by-cases (ℕ-discrete q (k + 1)) (λ e. rw e l) (λ d. h .least q (below a d));
+    first = λ q a m. h .first q (below a (omega (arith, h .within .high))) m;
+  }
+
+  -- it is the first with an end by then
+  pub soonest-due : FirstBelow (IsDue U (getD U p 0)) (k + 1) p
+  soonest-due = record {
+    before = record {
+      within = omega (arith, h .within .high);
+      none = λ q l d. omega (arith, h .first q (record { low = d .one; high = omega (arith, h .within .high) }) l, d .by);
+    };
+    here = λ _. record { one = h .within .low; by = omega arith };
+  }
 
 -- ---- the places of the order
 
@@ -120,7 +140,8 @@ module _ {R G : List ℕ} {x : ℕ} (l : x < 256) (e : length R ≡ 256) (g : Gr
   pub grouped-last : {y : ℕ} → NoneBelow (IsMarked R) 256 x → NoOther (set R x 0) x y → x / 16 * 16 + 16 ≤ y → Grouped (set R x 0) (set G (x / 16) 0)
   grouped-last before u m = record {
     long = length-set G (x / 16) 0 ∙ g .long;
-    none = λ z b. read-set (λ k. k ≡ 0 → getD (set R x 0) z 0 ≢ 1) G (x / 16) 0 (z / 16) (omega (arith, g .long)) (λ q _. inside z q) (λ q f. fewer z (g .none z b f));
+    none = λ z b. read-set (λ k. k ≡ 0 → getD (set R x 0) z 0 ≢ 1) G (x / 16) 0 (z / 16) (omega (arith, g .long))
+        (λ q _. inside z q) (λ q f. fewer z (g .none z b f));
   }
     where
       inside : (z : ℕ) → z / 16 ≡ x / 16 → getD (set R x 0) z 0 ≢ 1

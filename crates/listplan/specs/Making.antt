@@ -109,10 +109,11 @@ pub record ToGo (ready : List ℕ) (M p n x : ℕ) : Type 0 where
   pub first : p ≤ M → FirstBelow (IsMarked ready) n x
   pub none : M < p → x ≡ n
 
--- e is the soonest end, and `never` where nobody is on a processor
-pub record Soonest (until : List ℕ) (M e : ℕ) : Type 0 where
-  pub least : (p : ℕ) → Among 1 M p → e ≤ getD until p 0
-  pub reached : e ≢ never → (p : ℕ) × Among 1 M p × (getD until p 0 ≡ e)
+-- processor p is the first with the soonest end
+pub record Soonest (until : List ℕ) (M p : ℕ) : Type 0 where
+  pub within : Among 1 M p
+  pub least : (q : ℕ) → Among 1 M q → getD until p 0 ≤ getD until q 0
+  pub first : (q : ℕ) → Among 1 M q → q < p → getD until p 0 < getD until q 0
 
 -- The arrow at place a is counted off: one fewer holds its `to` back, and where it was the last one, the place of `to` in the order is marked.
 -- low′ is the smaller of low and the place that was marked.

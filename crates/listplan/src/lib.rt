@@ -1,4 +1,5 @@
 // The list plan as a table of entries, with its reply: what is to be written into the lent row.
+mod events;
 mod order;
 mod rule;
 mod scan;

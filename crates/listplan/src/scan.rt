@@ -1,34 +1,30 @@
 // Scans over the processors and over the places of the order. A processor's place in a table is its number; place 0 is not used.
-use forms::NEVER;
 use inputs::usize_from_u8;
 use terms::Processor;
 ghost use mathlib.Core.Path.{_≡_};
-ghost use Prim.Native.Nat.{_+_, _≤_, _<_, min};
+ghost use Prim.Native.Nat.{_+_, _≤_, _<_};
 ghost use lib.ListN.{length, set};
 ghost use Rattle.terms.specs.Graphs.{Among};
 ghost use Rattle.theory.specs.First.{NoneBelow, FirstBelow};
 ghost use Rattle.listplan.specs.Tables.{Grouped};
 ghost use Rattle.listplan.specs.Making.{IsMarked, IsFree, IsDue, ToGo, Soonest};
 
-// The sooner of two ends.
-fn sooner(a: u32, b: u32) -> u32
-    ensures { λ r. ⌜ r ≡ min a b ⌝ }
-{
-    if b < a { b } else { a }
-}
-
-// The soonest end, and NEVER where nobody is on a processor.
-pub fn soonest_end(until: &[u32; 17], m: usize) -> u32
+// The first processor with the soonest end.
+pub fn first_to_end(until: &[u32; 17], m: usize) -> Processor
     requires { ⌜ Among 1 16 m × (length (now until) ≡ 17) ⌝ }
-    ensures { λ r. ⌜ Soonest (now (until .entry)) m r ⌝ }
+    ensures { λ r. ⌜ Soonest (now (until .entry)) m (r .0) ⌝ }
 {
-    let mut end = NEVER;
-    let mut p: usize = 0;
+    let mut first: usize = 1;
+    let mut end = until[1];
+    let mut p: usize = 1;
     while p < m {
         p += 1;
-        end = sooner(end, until[p]);
+        if until[p] < end {
+            end = until[p];
+            first = p;
+        }
     }
-    end
+    Processor(first as u8)
 }
 
 // The first processor with an end by t; the one past m where there is none. Those before `from` are known to end later.

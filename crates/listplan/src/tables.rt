@@ -56,7 +56,8 @@ pub fn rank_subtasks(
     requires { ⌜ Distinct (now order) ⌝ }
     requires { ⌜ (length (now left) ≡ 257) × (length (now rank) ≡ 257) × (now ready ≡ replicate 256 0) × (length (now groups) ≡ 16) ⌝ }
     ensures { λ _. ⌜ Ranks (now (order .entry)) (now (rank .exit)) (length (now (order .entry))) ⌝ }
-    ensures { λ _. ⌜ Sources (now (order .entry)) (now (left .entry)) (now (ready .exit)) (length (now (order .entry))) × Grouped (now (ready .exit)) (now (groups .exit)) ⌝ }
+    ensures { λ _. ⌜ Sources (now (order .entry)) (now (left .entry)) (now (ready .exit)) (length (now (order .entry))) ⌝ }
+    ensures { λ _. ⌜ Grouped (now (ready .exit)) (now (groups .exit)) ⌝ }
 {
     let mut x: usize = 0;
     while x < order.len() {

@@ -53,7 +53,8 @@ loop-less c = omega arith
 
 loop-again : tie.Need-loop-again Inv-loop μ-loop
 loop-again c =
-    named-more (here (c .before .before .before)) (start (c .before .before .before .before .before) .pre) (c .before .before .if2 .left) (c .before .if3 .left) (c .if4 .left)
+    let place = c .before .before .before in
+    named-more (here place) (start (place .before .before) .pre) (c .before .before .if2 .left) (c .before .if3 .left) (c .if4 .left)
 
 returns-5 : tie.Need-returns-5 Inv-loop μ-loop
 returns-5 c = all-named (c .before .loop .inv) (c .before .before .if1 .left) (c .loop-test .left)

@@ -1,5 +1,5 @@
 -- `first_marked`: the first place of the order that is marked. Assumes nothing.
-use Prim.Native.Nat.{_-_}
+use Prim.Native.Nat.{_-_, _<_}
 use native.Mathlib.Omega.{arith}
 use Rattle.listplan.proofs.Scans.{Unmarked, unmarked-below, unmarked-more, unmarked-group, marked-here, none-marked}
 use Rattle.listplan.proofs.scan.first_marked.Statement.{statement}
@@ -11,66 +11,48 @@ Inv-loop ready groups low n x₀ x = Unmarked ready x
 abbrev μ-loop : tie.MeasureT-loop
 μ-loop ready groups low n x₀ x = n - x
 
+-- the place at hand
+inside : (c : tie.In-loop Inv-loop μ-loop) → c .before .loop .x < 256
+inside c = omega (arith, c .loop-test .taken, c .before .before .pre .0)
+
+abbrev turn : tie.Else1 Inv-loop μ-loop → tie.In-loop Inv-loop μ-loop
+turn c = c .before .before
+
 loop-holds : tie.Need-loop-holds Inv-loop μ-loop
 loop-holds c = unmarked-below (c .pre .3)
 
 element-copy-out-if1 : tie.Need-element-copy-out-if1 Inv-loop μ-loop
-element-copy-out-if1 c =
-    let c-pre = c .before .before .pre in
-    omega (arith, c .loop-test .taken, c-pre .0)
+element-copy-out-if1 c = omega (arith, inside c)
 
 mul-x : tie.Need-mul-x Inv-loop μ-loop
-mul-x c =
-    let c-loop-test = c .before .before .loop-test in
-    let c-pre = c .before .before .before .before .pre in
-    omega (arith, c-loop-test .taken, c-pre .0)
+mul-x c = omega (arith, inside (c .before .before))
 
 add-x : tie.Need-add-x Inv-loop μ-loop
-add-x c =
-    let c-loop-test = c .before .before .loop-test in
-    let c-pre = c .before .before .before .before .pre in
-    omega (arith, c-loop-test .taken, c-pre .0)
+add-x c = omega (arith, inside (c .before .before))
 
 loop-less : tie.Need-loop-less Inv-loop μ-loop
-loop-less c =
-    let c-loop-test = c .before .before .loop-test in
-    omega (arith, c-loop-test .taken)
+loop-less c = omega (arith, c .before .before .loop-test .taken)
 
 loop-again : tie.Need-loop-again Inv-loop μ-loop
-loop-again c =
-    let c-pre = c .before .before .before .before .pre in
-    let c-loop = c .before .before .before .loop in
-    unmarked-group (c-pre .2) (c-loop .inv) (c .if1 .taken)
+loop-again c = let at = c .before .before .before in unmarked-group (at .before .pre .2) (at .loop .inv) (c .if1 .taken)
 
 element-copy-out-if2 : tie.Need-element-copy-out-if2 Inv-loop μ-loop
-element-copy-out-if2 c =
-    let c-loop-test = c .before .before .loop-test in
-    let c-pre = c .before .before .before .before .pre in
-    omega (arith, c-loop-test .taken, c-pre .0)
+element-copy-out-if2 c = omega (arith, inside (turn c))
 
 returns : tie.Need-returns Inv-loop μ-loop
-returns c =
-    let c-pre = c .before .before .before .before .before .before .pre in
-    let c-loop-test = c .before .before .before .before .loop-test in
-    let c-loop = c .before .before .before .before .before .loop in
-    marked-here (c-pre .0) (c-loop-test .taken) (c-loop .inv) (c .if2 .taken)
+returns c = let at = turn (c .before .before) in marked-here (at .before .before .pre .0) (at .loop-test .taken) (at .before .loop .inv) (c .if2 .taken)
 
 add-x-2 : tie.Need-add-x-2 Inv-loop μ-loop
-add-x-2 c = omega arith
+add-x-2 c = omega (arith, inside (turn (c .before .before)))
 
 loop-less-2 : tie.Need-loop-less-2 Inv-loop μ-loop
-loop-less-2 c = omega arith
+loop-less-2 c = omega (arith, turn (c .before .before) .loop-test .taken)
 
 loop-again-2 : tie.Need-loop-again-2 Inv-loop μ-loop
-loop-again-2 c =
-    let c-loop = c .before .before .before .before .before .loop in
-    unmarked-more (c-loop .inv) (c .if2 .left)
+loop-again-2 c = unmarked-more (turn (c .before .before) .before .loop .inv) (c .if2 .left)
 
 returns-2 : tie.Need-returns-2 Inv-loop μ-loop
-returns-2 c =
-    let c-pre = c .before .before .pre in
-    let c-loop = c .before .loop in
-    none-marked (c-pre .0) (c .loop-test .left) (c-loop .inv)
+returns-2 c = none-marked (c .before .before .pre .0) (c .loop-test .left) (c .before .loop .inv)
 
 pub first-marked-spec : {M : Type 1} → statement M
 first-marked-spec =

@@ -28,40 +28,25 @@ loop-holds : tie.Need-loop-holds Inv-loop μ-loop
 loop-holds c = no-other _ _
 
 element-copy-out-if1 : tie.Need-element-copy-out-if1 Inv-loop μ-loop
-element-copy-out-if1 c =
-    let c-pre = c .before .before .pre in
-    omega (arith, c .loop-test .taken, c-pre .0)
+element-copy-out-if1 c = omega (arith, c .loop-test .taken, c .before .before .pre .0)
 
 returns : tie.Need-returns Inv-loop μ-loop
-returns c =
-    let c-pre = c .before .before .before .before .pre in
-    (refl, grouped-still (c-pre .0) (c-pre .1) (c-pre .2))
+returns c = let pre = c .before .before .before .before .pre in (refl, grouped-still (pre .0) (pre .1) (pre .2))
 
 add-y-2 : tie.Need-add-y-2 Inv-loop μ-loop
-add-y-2 c =
-    let c-loop-test = c .before .before .loop-test in
-    let c-pre = c .before .before .before .before .pre in
-    omega (arith, c-loop-test .taken, c-pre .0)
+add-y-2 c = let at = c .before .before in omega (arith, at .loop-test .taken, at .before .before .pre .0)
 
 loop-less : tie.Need-loop-less Inv-loop μ-loop
 loop-less c = omega arith
 
 loop-again : tie.Need-loop-again Inv-loop μ-loop
-loop-again c =
-    let c-loop = c .before .before .before .loop in
-    let c-loop-test = c .before .before .loop-test in
-    no-other-more (c-loop .inv) (c-loop-test .taken) (c .if1 .left)
+loop-again c = let at = c .before .before in no-other-more (at .before .loop .inv) (at .loop-test .taken) (c .if1 .left)
 
 element-write-groups : tie.Need-element-write-groups Inv-loop μ-loop
-element-write-groups c =
-    let c-pre = c .before .before .pre in
-    omega (arith, c-pre .0)
+element-write-groups c = omega (arith, c .before .before .pre .0)
 
 returns-2 : tie.Need-returns-2 Inv-loop μ-loop
-returns-2 c =
-    let c-pre = c .before .before .pre in
-    let c-loop = c .before .loop in
-    (refl, grouped-last (c-pre .0) (c-pre .1) (c-pre .2) (c-pre .3) (c-loop .inv) (c .loop-test .left))
+returns-2 c = let pre = c .before .before .pre in (refl, grouped-last (pre .0) (pre .1) (pre .2) (pre .3) (c .before .loop .inv) (c .loop-test .left))
 
 pub unmark-spec : {M : Type 1} → statement M
 unmark-spec =

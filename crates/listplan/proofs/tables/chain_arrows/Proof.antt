@@ -17,7 +17,8 @@ abbrev μ-loop : tie.MeasureT-loop
 abbrev turn : tie.After-to-at Inv-loop μ-loop → tie.At-loop Inv-loop μ-loop
 turn c = c .before .before .before
 
-arrow : (c : tie.After-to-at Inv-loop μ-loop) → NextArrow (now (turn c .before .args .arrows)) (turn c .loop .first) (turn c .loop .next) (turn c .loop .left)
+arrow : (c : tie.After-to-at Inv-loop μ-loop)
+    → NextArrow (now (turn c .before .args .arrows)) (turn c .loop .first) (turn c .loop .next) (turn c .loop .left)
     (turn c .loop .i) (c .before .from-at .result .0) (c .to-at .result .0)
 arrow c = record {
   so-far = turn c .loop .inv;

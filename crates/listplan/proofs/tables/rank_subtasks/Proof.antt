@@ -20,7 +20,8 @@ turn c = c .before .before
 abbrev start : tie.After-subtask-at Inv-loop μ-loop → tie.Start Inv-loop μ-loop
 start c = turn c .before .before
 
-here : (c : tie.After-subtask-at Inv-loop μ-loop) → NextPlace (now (start c .args .order)) (now (start c .args .left)) (turn c .loop .rank) (turn c .loop .ready)
+here : (c : tie.After-subtask-at Inv-loop μ-loop)
+    → NextPlace (now (start c .args .order)) (now (start c .args .left)) (turn c .loop .rank) (turn c .loop .ready)
     (turn c .loop .groups) (turn c .loop .x) (c .subtask-at .result .0)
 here c = record { so-far = turn c .loop .inv; distinct = start c .pre .0; inside = c .before .loop-test .taken; stands = c .subtask-at .ensures .0 }
 

@@ -4,18 +4,21 @@ use Prim.Native.Nat.{ℕ, _<_}
 use native.Mathlib.Omega.{arith}
 use lib.ListN.{getD}
 use denote.Ref.{now}
-use Rattle.listplan.proofs.rule.end_on.Statement.{statement}
-use Rattle.listplan.proofs.rule.end_on.Tie as tie
+use Rattle.listplan.proofs.events.end_on.Statement.{statement}
+use Rattle.listplan.proofs.events.end_on.Tie as tie
 
 on-in : (c : tie.After-usize-from-u8) → c .usize-from-u8 .result < 17
 on-in c = rw (c .usize-from-u8 .ensures .0) (c .before .pre .0 .0)
 
 -- the subtask that is there
-was : (c : tie.After-usize-from-u16) → c .usize-from-u16 .result ≡ getD (now (c .before .before .before .args .who)) (c .before .before .before .args .processor .0) 0
-was c = c .usize-from-u16 .ensures .0 ∙ ap (λ (p : ℕ). getD (now (c .before .before .before .args .who)) p 0) (c .before .before .usize-from-u8 .ensures .0)
+abbrev start : tie.After-usize-from-u16 → tie.Start
+start c = c .before .before .before
+
+was : (c : tie.After-usize-from-u16) → c .usize-from-u16 .result ≡ getD (now (start c .args .who)) (start c .args .processor .0) 0
+was c = c .usize-from-u16 .ensures .0 ∙ ap (λ (p : ℕ). getD (now (start c .args .who)) p 0) (c .before .before .usize-from-u8 .ensures .0)
 
 was-in : (c : tie.After-usize-from-u16) → c .usize-from-u16 .result < 257
-was-in c = rw (was c) (c .before .before .before .pre .1 .0)
+was-in c = rw (was c) (start c .pre .1 .0)
 
 usize-from-u8-requires : tie.Need-usize-from-u8-requires
 usize-from-u8-requires c κs = tt

@@ -3,8 +3,8 @@ use mathlib.Core.Path.{refl}
 use Prim.Native.Nat.{_<_}
 use native.Mathlib.Omega.{arith}
 use borrow.Author.Needs.{needs}
-use Rattle.listplan.proofs.rule.start_on.Statement.{statement}
-use Rattle.listplan.proofs.rule.start_on.Tie as tie
+use Rattle.listplan.proofs.events.start_on.Statement.{statement}
+use Rattle.listplan.proofs.events.start_on.Tie as tie
 
 abbrev start : tie.After-usize-from-u8 → tie.Start
 start c = c .before .before .before .before
@@ -58,7 +58,7 @@ same-length-2 : tie.Need-same-length-2
 same-length-2 c = search needs
 
 returns : tie.Need-returns
-returns c = ((refl, refl), rw (c .before .usize-from-u8 .ensures .0, c .time-of .ensures .is (start (c .before) .pre .0 .0)) (refl, refl))
+returns c = (refl, (refl, rw (c .before .usize-from-u8 .ensures .0, c .time-of .ensures .is (start (c .before) .pre .0 .0)) (refl, refl)))
 
 pub start-on-spec : {M : Type 1} → statement M
 start-on-spec =

@@ -5,8 +5,8 @@ use native.Mathlib.Omega.{arith}
 use denote.Ref.{now}
 use Rattle.terms.specs.Graphs.{toOf}
 use Rattle.listplan.proofs.CountingOff.{counted-off}
-use Rattle.listplan.proofs.rule.count_off.Statement.{statement}
-use Rattle.listplan.proofs.rule.count_off.Tie as tie
+use Rattle.listplan.proofs.events.count_off.Statement.{statement}
+use Rattle.listplan.proofs.events.count_off.Tie as tie
 
 to : (c : tie.After-to-at) → c .to-at .result .0 ≡ toOf (now (c .before .args .arrows)) (c .before .args .place)
 to c = c .to-at .ensures .0
@@ -14,9 +14,12 @@ to c = c .to-at .ensures .0
 to-in : (c : tie.After-to-at) → c .to-at .result .0 < 257
 to-in c = rw (to c) (c .before .pre .0)
 
--- where no arrow is left
-abbrev goes-to : tie.After-mark → tie.After-to-at
-goes-to c = c .before .before .before .before .before .before .before
+-- where it was the last one
+abbrev goes-to : tie.After-usize-from-u16 → tie.After-to-at
+goes-to c = c .before .before .before .before
+
+abbrev ranked : tie.After-mark → tie.After-usize-from-u16
+ranked c = c .before .before .before
 
 to-at-requires : tie.Need-to-at-requires
 to-at-requires c κs = tt
@@ -38,7 +41,8 @@ element-write-left c = to-in (c .before)
 
 returns : tie.Need-returns
 returns c =
-    counted-off (to (c .before .before)) refl (record { ifSo = λ z. absurd (c .if1 .taken z); ifNot = λ _. (refl, refl) }) (λ z. absurd (c .if1 .taken z)) (λ _. refl)
+    let more = c .if1 .taken in
+    counted-off (to (c .before .before)) refl (record { ifSo = λ z. absurd (more z); ifNot = λ _. (refl, refl) }) (λ z. absurd (more z)) (λ _. refl)
 
 mul-usize-from-u16 : tie.Need-mul-usize-from-u16
 mul-usize-from-u16 c = omega (arith, to-in (c .before .before))
@@ -51,19 +55,21 @@ usize-from-u16-requires c κs = tt
 
 mark-requires : tie.Need-mark-requires
 mark-requires c κs =
-    let goes = c .before .before .before .before .before .before in
-    let pre = goes .before .pre .1 in
-    (rw (c .before .before .usize-from-u16 .ensures .0, to goes) (pre .1 .1), pre .0 .2, pre .0 .3)
+    let at = c .before .before in
+    let pre = goes-to at .before .pre .1 in
+    (rw (at .usize-from-u16 .ensures .0, to (goes-to at)) (pre .1 .1), pre .0 .2, pre .0 .3)
 
 returns-2 : tie.Need-returns-2
 returns-2 c =
-    let last = c .before .before .before .before .before .before .if1 .left in
-    counted-off (to (goes-to (c .before))) (c .before .before .before .before .usize-from-u16 .ensures .0) (c .before .mark .ensures) (λ _. omega (arith, c .if2 .taken)) (λ n. absurd (n last))
+    let at = ranked (c .before) in
+    let last = at .before .before .if1 .left in
+    counted-off (to (goes-to at)) (at .usize-from-u16 .ensures .0) (c .before .mark .ensures) (λ _. omega (arith, c .if2 .taken)) (λ n. absurd (n last))
 
 returns-3 : tie.Need-returns-3
 returns-3 c =
-    let last = c .before .before .before .before .before .before .if1 .left in
-    counted-off (to (goes-to (c .before))) (c .before .before .before .before .usize-from-u16 .ensures .0) (c .before .mark .ensures) (λ _. omega (arith, c .if2 .left)) (λ n. absurd (n last))
+    let at = ranked (c .before) in
+    let last = at .before .before .if1 .left in
+    counted-off (to (goes-to at)) (at .usize-from-u16 .ensures .0) (c .before .mark .ensures) (λ _. omega (arith, c .if2 .left)) (λ n. absurd (n last))
 
 pub count-off-spec : {M : Type 1} → statement M
 count-off-spec =
