@@ -1,4 +1,4 @@
--- The replies of document 01 as flat records: success has number 0, and with a refusal every other field is 0.
+-- The replies of docs/PLANNER.md as flat records: success has number 0, and with a refusal every other field is 0.
 use mathlib.Core.Path.{_≡_}
 use mathlib.Core.Bool.{false}
 use Prim.Native.Nat.{ℕ, _≤_}

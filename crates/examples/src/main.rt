@@ -248,7 +248,7 @@ fn refused_plans(fives: &[u16], none: &[[u16; 2]]) {
 // The next field of a text, as the piece of it that holds the digits.
 fn next_piece() {
     print(b"next field ");
-    print(next_field(b" \t12 3", 0));
+    print(next_field(b" \t12 3", 2));
     print(b"\n");
 }
 

@@ -13,13 +13,13 @@ use Rattle.terms.specs.ListRule.{put}
 use Rattle.terms.specs.declared.Entry.{Entry}
 use Rattle.forms.specs.Forms.{entries, itemOf, finishOf, lastEnd}
 
-pub entries-length : (P S : List ℕ) → length P ≡ length S → length (entries P S) ≡ length P
+pub entries-length : (procs starts : List ℕ) → length procs ≡ length starts → length (entries procs starts) ≡ length procs
 unfolding entries
-entries-length [] S e = refl
+entries-length [] starts e = refl
 entries-length (p ∷ ps) [] e = absurd (omega arith)
 entries-length (p ∷ ps) (s ∷ ss) e = ap suc (entries-length ps ss (suc-inj e))
 
-pub entries-getD : (P S : List ℕ) (i : ℕ) → length P ≡ length S → getD (entries P S) i notPlaced ≡ at (getD P i 0) (getD S i 0)
+pub entries-getD : (procs starts : List ℕ) (i : ℕ) → length procs ≡ length starts → getD (entries procs starts) i notPlaced ≡ at (getD procs i 0) (getD starts i 0)
 unfolding entries
 entries-getD [] [] i e = refl
 entries-getD [] (s ∷ ss) i e = absurd (omega arith)
@@ -27,16 +27,16 @@ entries-getD (p ∷ ps) [] i e = absurd (omega arith)
 entries-getD (p ∷ ps) (s ∷ ss) zero e = refl
 entries-getD (p ∷ ps) (s ∷ ss) (suc i) e = entries-getD ps ss i (suc-inj e)
 
-module _ (times P S : List ℕ) (e : length P ≡ length S) (j : ℕ) where
-  pub entries-processor : processorOf (entries P S) j ≡ itemOf P j
+module _ (times procs starts : List ℕ) (e : length procs ≡ length starts) (j : ℕ) where
+  pub entries-processor : processorOf (entries procs starts) j ≡ itemOf procs j
   unfolding processorOf itemOf
-  entries-processor = ap (λ (x : Entry). x .processor .0) (entries-getD P S (j - 1) e)
+  entries-processor = ap (λ (x : Entry). x .processor .0) (entries-getD procs starts (j - 1) e)
 
-  pub entries-start : startOf (entries P S) j ≡ itemOf S j
+  pub entries-start : startOf (entries procs starts) j ≡ itemOf starts j
   unfolding startOf itemOf
-  entries-start = ap (λ (x : Entry). x .start) (entries-getD P S (j - 1) e)
+  entries-start = ap (λ (x : Entry). x .start) (entries-getD procs starts (j - 1) e)
 
-  pub entries-end : endOf times (entries P S) j ≡ finishOf times S j
+  pub entries-end : endOf times (entries procs starts) j ≡ finishOf times starts j
   unfolding endOf finishOf
   entries-end = omega (arith, entries-start)
 
@@ -47,7 +47,7 @@ entries-none zero = refl
 entries-none (suc n) = ap (λ (l : List Entry). notPlaced ∷ l) (entries-none n)
 
 -- a store in both rows puts a subtask
-entries-set : (P S : List ℕ) (i p t : ℕ) → length P ≡ length S → entries (set P i p) (set S i t) ≡ set (entries P S) i (at p t)
+entries-set : (procs starts : List ℕ) (i p t : ℕ) → length procs ≡ length starts → entries (set procs i p) (set starts i t) ≡ set (entries procs starts) i (at p t)
 unfolding entries
 entries-set [] [] i p t e = refl
 entries-set [] (s ∷ ss) i p t e = absurd (omega arith)
@@ -55,9 +55,9 @@ entries-set (x ∷ xs) [] i p t e = absurd (omega arith)
 entries-set (x ∷ xs) (s ∷ ss) zero p t e = refl
 entries-set (x ∷ xs) (s ∷ ss) (suc i) p t e = ap (λ (l : List Entry). at x s ∷ l) (entries-set xs ss i p t (suc-inj e))
 
-pub entries-put : (P S : List ℕ) (j p t : ℕ) → length P ≡ length S → entries (set P (j - 1) p) (set S (j - 1) t) ≡ put (entries P S) j p t
+pub entries-put : (procs starts : List ℕ) (j p t : ℕ) → length procs ≡ length starts → entries (set procs (j - 1) p) (set starts (j - 1) t) ≡ put (entries procs starts) j p t
 unfolding put
-entries-put P S j p t e = entries-set P S (j - 1) p t e
+entries-put procs starts j p t e = entries-set procs starts (j - 1) p t e
 
 -- ---- where the plan ends
 

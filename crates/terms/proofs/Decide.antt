@@ -1,4 +1,4 @@
--- The conditions of document 01 over given numbers can be decided, by decisions that compute. Assumes nothing.
+-- The conditions of docs/PLANNER.md over given numbers can be decided, by decisions that compute. Assumes nothing.
 use mathlib.Core.Path.{_≡_, refl}
 use mathlib.Core.Logic.{_≢_, _⊎_, inl, inr, by-cases, Dec·and, Dec·not}
 use mathlib.Core.List.{List}

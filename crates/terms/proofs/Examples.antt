@@ -1,4 +1,4 @@
--- The starred examples 1 to 10 of document 01, shown from the definitions alone. Assumes nothing.
+-- The starred examples 1 to 10 of docs/PLANNER.md, shown from the definitions alone. Assumes nothing.
 use mathlib.Core.Path.{_≡_, refl, sym}
 use mathlib.Core.Logic.{Dec·and, Dec·not}
 use mathlib.Core.List.{List, [], _∷_}

@@ -98,7 +98,7 @@ module _ (times : List ℕ) (arrows : List (List ℕ)) (finish : List ℕ) (P : 
   pub longest-by : (j : ℕ) (path : PathTo times arrows j) → weight path ≡ P → IsLongest times arrows P
   longest-by j path e = record { reached = (j, path, e); most = λ k p. let x = weighs p in omega (arith, x .0, x .1) }
 
--- ---- the tables of document 01
+-- ---- the tables of docs/PLANNER.md
 
 unfoldable pub graphDecided : (times : List ℕ) (arrows : List (List ℕ)) → Dec ((j : ℕ) × LeadsTo arrows j j) → Decided (graphRows times arrows)
 unfolding graphRows subtaskRows countRows timeRows sizeRows arrowRows decSomeSubtask decSomeArrow decRepeats decAmong Dec·and Dec·not decLt ℕ-discrete

@@ -1,8 +1,8 @@
--- Texts of document 01 and at its edges, read by computation from the definitions alone. Assumes nothing.
+-- Texts of docs/PLANNER.md and at its edges, read by computation from the definitions alone. Assumes nothing.
 use mathlib.Core.Path.{_≡_, refl}
 use mathlib.Core.List.{List, [], _∷_, _++_}
 use Prim.Native.Nat.{ℕ}
-use Rattle.terms.specs.Texts.{allPass, lines, fields, valueFrom, proper, numbers, blanks, digits, nextField}
+use Rattle.terms.specs.Texts.{allPass, lines, fields, valueFrom, proper, numbers, blanks, digits}
 use Rattle.terms.specs.Rows.{refusalOf}
 use Rattle.terms.specs.Readings.{Reading, refuse, graph, isSize, isFirst, isShape, isTask, isEntryDummy, isExitDummy, mayFollow, arrowsInto}
 use Rattle.terms.specs.Readings.{withTask, trailer, exitLine, taskLines, entryLine, readLines, readText}
@@ -50,7 +50,7 @@ pub record WorkedTexts : Type 0 where
   -- "1 7 0" and a comment before the exit dummy
   pub commentInside : read (around (49 ∷ 32 ∷ 55 ∷ 32 ∷ 48 ∷ 10 ∷ 35 ∷ 10 ∷ [])) ≡ refuse (refusalOf 22)
   -- the next field of " \t12 3" is "12"
-  pub nextPiece : nextField (32 ∷ 9 ∷ 49 ∷ 50 ∷ 32 ∷ 51 ∷ []) ≡ 49 ∷ 50 ∷ []
+  pub nextPiece : digits (49 ∷ 50 ∷ 32 ∷ 51 ∷ []) ≡ 49 ∷ 50 ∷ []
 
 pub worked-texts : WorkedTexts
 unfolding allPass lines fields valueFrom proper numbers blanks digits isSize isFirst isShape isTask isEntryDummy isExitDummy mayFollow arrowsInto withTask trailer exitLine taskLines entryLine readLines readText

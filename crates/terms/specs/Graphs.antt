@@ -1,4 +1,4 @@
--- Document 01, "Numbers": subtasks, their times, arrows. Subtasks are numbered from 1; a graph's counts are the lengths of its two rows.
+-- docs/PLANNER.md, "Numbers": subtasks, their times, arrows. Subtasks are numbered from 1; a graph's counts are the lengths of its two rows.
 use mathlib.Core.Path.{_≡_}
 use mathlib.Core.List.{List, []}
 use Prim.Native.Nat.{ℕ, _-_, _≤_, _<_}

@@ -1,4 +1,4 @@
--- Document 01, "List rule". Given an order of all subtasks.
+-- docs/PLANNER.md, "List rule". Given an order of all subtasks.
 use mathlib.Core.Path.{_≡_}
 use mathlib.Core.Logic.{_≢_}
 use mathlib.Core.List.{List}

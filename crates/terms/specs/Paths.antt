@@ -1,4 +1,4 @@
--- Document 01, "Terms": total work C and longest path P.
+-- docs/PLANNER.md, "Terms": total work C and longest path P.
 use mathlib.Core.Path.{_≡_}
 use mathlib.Core.List.{List}
 use Prim.Native.Nat.{ℕ, suc, _+_, _≤_}

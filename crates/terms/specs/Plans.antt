@@ -1,4 +1,4 @@
--- Document 01, "Terms": plans. A plan is a row of entries, one for each subtask, holding its processor and start.
+-- docs/PLANNER.md, "Terms": plans. A plan is a row of entries, one for each subtask, holding its processor and start.
 use mathlib.Core.Path.{_≡_}
 use mathlib.Core.Logic.{_⊎_}
 use mathlib.Core.List.{List}

@@ -1,4 +1,4 @@
--- Document 01, "STG text": the graph that a text means, or the number by which it is refused; then the reader's reply and its two rows.
+-- docs/PLANNER.md, "STG text": the graph that a text means, or the number by which it is refused; then the reader's reply and its two rows.
 use mathlib.Core.Path.{_≡_}
 use mathlib.Core.List.{List, [], _∷_, _++_}
 use mathlib.Core.Bool.{Bool, true, false, cond, _&&_, _||_}

@@ -1,4 +1,4 @@
--- Document 01, "Numbers of refusal": the table, row by row, and which rows each call asks, in its order.
+-- docs/PLANNER.md, "Numbers of refusal": the table, row by row, and which rows each call asks, in its order.
 use mathlib.Core.Path.{_≡_}
 use mathlib.Core.Logic.{_≢_}
 use mathlib.Core.List.{List, [], _∷_, _++_}

@@ -1,4 +1,4 @@
--- Document 01, "Replies": what each call answers and leaves in its lent row, for every input. Each is told case by case of the reply.
+-- docs/PLANNER.md, "Replies": what each call answers and leaves in its lent row, for every input. Each is told case by case of the reply.
 use mathlib.Core.Path.{_≡_}
 use mathlib.Core.List.{List}
 use Prim.Native.Nat.{ℕ}

@@ -1,4 +1,4 @@
--- "Numbers of refusal": the rows of the table, asked in order; the first that holds gives the refusal.
+-- docs/PLANNER.md, "Numbers of refusal": the rows of the table, asked in order; the first that holds gives the refusal.
 use mathlib.Core.Path.{_≡_}
 use mathlib.Core.Logic.{_⊎_}
 use mathlib.Core.List.{List, [], _∷_}

@@ -1,4 +1,4 @@
--- Document 01, "STG text": the lines of a text, the fields of a line, the number of a field.
+-- docs/PLANNER.md, "STG text": the lines of a text, the fields of a line, the number of a field.
 use mathlib.Core.List.{List, [], _∷_, map}
 use mathlib.Core.Bool.{Bool, true, false, cond, not, _&&_, _||_}
 use Prim.Native.Nat.{ℕ, suc, _+_, _-_, _*_}
@@ -65,7 +65,7 @@ proper line = allPass isField (fields line)
 unfoldable pub numbers : List ℕ → List ℕ
 numbers line = map value (fields line)
 
--- ---- the next field of a text, from a place in it on
+-- ---- what stands at a place of a text, given the text from there on
 
 -- whether a line ends where the text begins
 abbrev pub endsHere : List ℕ → Bool
@@ -77,11 +77,7 @@ unfoldable pub blanks : List ℕ → ℕ
 blanks [] = 0
 blanks (b ∷ text) = cond (isBlank b) (suc (blanks text)) 0
 
--- the digits that lead
+-- the digits that lead: the field that stands here, none where no digit stands
 unfoldable pub digits : List ℕ → List ℕ
 digits [] = []
 digits (b ∷ text) = cond (isDigit b) (b ∷ digits text) []
-
--- the next field of the line, which is digits: leading spaces and tabs are passed over; none where no digit stands
-abbrev pub nextField : List ℕ → List ℕ
-nextField text = digits (drop (blanks text) text)

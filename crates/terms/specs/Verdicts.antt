@@ -1,4 +1,4 @@
--- Document 01, "Terms": S, the verdict and the load.
+-- docs/PLANNER.md, "Terms": S, the verdict and the load.
 use mathlib.Core.Path.{_≡_}
 use mathlib.Core.Bool.{false}
 use mathlib.Core.List.{List}

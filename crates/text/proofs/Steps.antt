@@ -10,7 +10,7 @@ use lib.Dec.{leb}
 use lib.ListN.{length, drop, getD, drop-of-length-le}
 use lib.Seq.{drop-cons, drop-drop}
 use borrow.Author.Tests.{ne-eqb, le-leb, lt-leb}
-use Rattle.terms.specs.Texts.{allPass, isDigit, fields, isField, value, proper, numbers, endsHere, blanks, digits, nextField}
+use Rattle.terms.specs.Texts.{allPass, isDigit, fields, isField, value, proper, numbers, endsHere, blanks, digits}
 use Rattle.text.specs.declared.Next.{Next}
 use Rattle.text.specs.declared.Next.the-variants as next
 use Rattle.text.specs.Steps.{lineSize, noNumber, nextAt, nextNumber}
@@ -52,10 +52,6 @@ module _ (text : List ℕ) (at start : ℕ) (p : start ≡ at + blanks (drop at 
   -- no space and no tab stands there
   start-blanks : blanks (drop start text) ≡ 0
   start-blanks = sym (ap blanks to-start) ∙ blanks-none (drop at text)
-
-  -- so the next field from there on begins there
-  pub field-start : (d : List ℕ) → d ≡ nextField (drop start text) → d ≡ digits (drop start text)
-  field-start d q = q ∙ ap (λ (k : ℕ). digits (drop k (drop start text))) start-blanks
 
   next-start : nextNumber at (drop at text) ≡ nextAt start (drop start text)
   unfolding nextNumber

@@ -4,7 +4,7 @@ ghost use mathlib.Core.Path.{_≡_};
 ghost use mathlib.Core.Bool.{true};
 ghost use Prim.Native.Nat.{_<_, _≤_, _+_};
 ghost use lib.ListN.{length, drop};
-ghost use Rattle.terms.specs.Texts.{allPass, isBlank, isDigit, value, endsHere, blanks, digits, nextField};
+ghost use Rattle.terms.specs.Texts.{allPass, isBlank, isDigit, value, endsHere, blanks, digits};
 ghost use Rattle.text.specs.Steps.{lineSize, noNumber, nextNumber};
 
 // What stands next on a line: its end, and where the next line begins; a piece that is no number; or a number, and the place behind it.
@@ -92,8 +92,8 @@ pub fn line_after(text: &[u8], at: usize) -> usize
     i
 }
 
-// The digits that stand at `at`, as that piece of the lent text.
-fn field_from(text: &[u8], at: usize) -> &[u8]
+// The field that stands at `at`: its digits, as that piece of the lent text; nothing where no digit stands.
+pub fn next_field(text: &[u8], at: usize) -> &[u8]
     ensures { λ r. ⌜ now r ≡ digits (drop at (now (text .entry))) ⌝ }
 {
     let end = digits_end(text, at);
@@ -101,13 +101,6 @@ fn field_from(text: &[u8], at: usize) -> &[u8]
         return &text[0..0];
     }
     &text[at..end]
-}
-
-// The next field from `at` on, as that piece of the lent text which holds its digits.
-pub fn next_field(text: &[u8], at: usize) -> &[u8]
-    ensures { λ r. ⌜ now r ≡ nextField (drop at (now (text .entry))) ⌝ }
-{
-    field_from(text, blanks_end(text, at))
 }
 
 // The number of a field. Its first digit stands before the loop, as many fields have no other.

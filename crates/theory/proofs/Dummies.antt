@@ -1,4 +1,4 @@
--- The dummies of document 01: at a small input each statement rules the dummy's reply out. Assumes nothing.
+-- The dummies of docs/PLANNER.md: at a small input each statement rules the dummy's reply out. Assumes nothing.
 use mathlib.Core.Path.{_≡_, refl, _∙_}
 use mathlib.Core.Logic.{inl, by-cases}
 use mathlib.Core.List.{List, [], _∷_}
@@ -26,8 +26,8 @@ use Rattle.theory.proofs.Accepted.{read-accepted, busy-plan, accepted-p
 use Rattle.theory.proofs.Paths.{one-longest}
 use Rattle.theory.proofs.ListRule.{by-rule, still-early, ends-early}
 use Rattle.theory.proofs.Answers.{not-both}
-use Rattle.theory.proofs.Pairs.{none-precedes, both, first, second, pair-sound, pair-longest, pair-total, inTurn, pair-order, one-processor}
-use Rattle.theory.proofs.Pairs.{pair-figures, pair-listed, short, short-sound, short-accepted, turns, turns-busy}
+use Rattle.theory.proofs.TwoSubtasks.{none-precedes, both, first, second, pair-sound, pair-longest, pair-total, inTurn, pair-order, one-processor}
+use Rattle.theory.proofs.TwoSubtasks.{pair-figures, pair-listed, short, short-sound, short-accepted, turns, turns-busy}
 use Rattle.terms.specs.declared.Check.the-variants as check
 use Rattle.terms.specs.declared.Measure.the-variants as measure
 use Rattle.terms.specs.declared.Amount.the-variants as amount

@@ -38,5 +38,5 @@ pub mod Alterations
 pub mod Dropping
 pub mod DemandThree
 pub mod OtherVerdicts
-pub mod Pairs
+pub mod TwoSubtasks
 pub mod Dummies

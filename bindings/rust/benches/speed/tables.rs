@@ -7,8 +7,8 @@ const CALLS: [(&str, f64); 6] = [
     ("total work", 1.1),
     ("longest path", 1.1),
     ("verdict", 1.1),
-    ("list plan", 1.3),
-    ("plan check", 1.3),
+    ("list plan", 1.1),
+    ("plan check", 1.1),
     ("reader", 1.1),
 ];
 

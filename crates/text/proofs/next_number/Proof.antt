@@ -1,12 +1,9 @@
 -- `next_number`: what stands next on the line. Assumes nothing.
-use mathlib.Core.Path.{_≡_}
 use native.Mathlib.Omega.{arith}
-use lib.ListN.{drop}
 use denote.Ref.{now}
 use borrow.Author.Needs.{needs}
-use Rattle.terms.specs.Texts.{digits}
 use Rattle.text.proofs.Places.{digits-within}
-use Rattle.text.proofs.Steps.{digits-all, field-start, next-none, next-long, next-is}
+use Rattle.text.proofs.Steps.{digits-all, next-none, next-long, next-is}
 use Rattle.text.proofs.next_number.Statement.{statement}
 use Rattle.text.proofs.next_number.Tie as tie
 
@@ -16,37 +13,33 @@ blanks-end-requires c κs = search needs
 next-field-requires : tie.Need-next-field-requires
 next-field-requires c κs = search needs
 
--- the field is the digits at its start
-field : (c : tie.After-next-field) → now (c .next-field .result) ≡ digits (drop (c .before .blanks-end .result) (now (c .before .before .before .args .text)))
-field c = field-start _ _ _ (c .before .blanks-end .ensures) _ (c .next-field .ensures)
-
 no-number-requires : tie.Need-no-number-requires
 no-number-requires c κs = search needs
 
 returns : tie.Need-returns
 returns c =
     let met = c .before .before in
-    next-none _ _ _ (met .before .blanks-end .ensures) _ (field met) _ (c .before .if1 .taken) (c .no-number .ensures)
+    next-none _ _ _ (met .before .blanks-end .ensures) _ (met .next-field .ensures) _ (c .before .if1 .taken) (c .no-number .ensures)
 
 returns-2 : tie.Need-returns-2
 returns-2 c =
     let met = c .before .before in
-    next-long _ _ _ (met .before .blanks-end .ensures) _ (field met) (c .before .if1 .left) (c .if2 .taken)
+    next-long _ _ _ (met .before .blanks-end .ensures) _ (met .next-field .ensures) (c .before .if1 .left) (c .if2 .taken)
 
 value-of-requires : tie.Need-value-of-requires
 value-of-requires c κs =
     let met = c .before .before in
-    (omega arith, omega arith, digits-all (now (met .before .before .before .args .text)) (met .before .blanks-end .result) _ (field met))
+    (omega arith, omega arith, digits-all (now (met .before .before .before .args .text)) (met .before .blanks-end .result) _ (met .next-field .ensures))
 
 add-t8 : tie.Need-add-t8
 add-t8 c =
     let met = c .before .before .before in
-    omega (arith, digits-within (now (met .before .before .before .args .text)) (met .before .blanks-end .result) _ (field met) (omega arith))
+    omega (arith, digits-within (now (met .before .before .before .args .text)) (met .before .blanks-end .result) _ (met .next-field .ensures) (omega arith))
 
 returns-3 : tie.Need-returns-3
 returns-3 c =
     let met = c .before .before .before in
-    next-is _ _ _ (met .before .blanks-end .ensures) _ (field met) (c .before .before .if1 .left) _ (c .value-of .ensures) (omega arith)
+    next-is _ _ _ (met .before .blanks-end .ensures) _ (met .next-field .ensures) (c .before .before .if1 .left) _ (c .value-of .ensures) (omega arith)
 
 pub next-number-spec : {M : Type 1} → statement M
 next-number-spec =
