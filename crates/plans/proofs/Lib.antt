@@ -1,4 +1,6 @@
 pub mod Local
+pub mod Locals
+pub mod Asking
 pub mod Lending
 pub mod Over
 pub mod Upto
