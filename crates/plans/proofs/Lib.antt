@@ -1,6 +1,7 @@
 pub mod Local
 pub mod Locals
 pub mod Asking
+pub mod Copying
 pub mod Lending
 pub mod Over
 pub mod Upto
