@@ -38,7 +38,7 @@ use denote.Triple.Statement.{Contract, Triple}
 use denote.Triple.Call.{calls-at}
 use denote.Triple.Clauses.{ensured, lasts}
 use denote.Triple.Table.{entered, cited}
-use denote.Triple.Walked.{Stays, walkOf, walked, walk-meets}
+use denote.Triple.Walked.{walkOf}
 use denote.Exit.{yes}
 use Rattle.terms.specs.declared.Entry.{Entry}
 use Rattle.terms.specs.declared.PlanEnd.{PlanEnd}
@@ -47,7 +47,7 @@ use Rattle.plancheck.specs.Tables.{ChecksTable}
 use Rattle.plans.specs.Copies.{over}
 use Rattle.plans.proofs.Lending.{Table, table-typed, table-makes, check-spells, check-tells, check-vals, CheckAre}
 use Rattle.plans.proofs.Locals.{held, locals, allocated, let-go, passing, sets, sets-result}
-use Rattle.plans.proofs.Asking.{begins, brings, asks, dropped, dropped-go, ends-dropped}
+use Rattle.plans.proofs.Asking.{begins, brings, asks, dropped, dropped-go, ends-dropped, Walk, met-by}
 use Rattle.plans.proofs.Rows.{checked}
 use Rattle.terms.proofs.Entry as T
 use Rattle.terms.proofs.Entry.Laws as T′
@@ -69,9 +69,6 @@ use Rattle.plans.proofs.check_plan.Key.{name as #f}
 use Rattle.plans.proofs.check_plan as f
 use Rattle.plans.proofs.check_plan.Statement as stated
 use Rattle.plans.proofs.check_plan.Code as code
-
-abbrev stayed : Stays (f.ended .signature .params) (f.ended .kept)
-stayed = dropped f.ended
 
 module _ {M : Type 1} (𝓤 : URA M) (H : Heap 𝓤) (A : Atoms 𝓤) (W : Given 𝓤 H A) (mem : Memory → SProp 𝓤) (run : Routine → Fun 𝓤) where
   -- the contracts that the proof cites
@@ -106,7 +103,7 @@ module _ {M : Type 1} (𝓤 : URA M) (H : Heap 𝓤) (A : Atoms 𝓤) (W : Given
     abbrev vs : Vals f.signature κs
     vs = check-vals κs a
 
-    abbrev Entered : walkOf 𝓤 H A f.ended stayed (f.clauses 𝓤 H A mem run) .Ghost
+    abbrev Entered : walkOf 𝓤 H A f.ended (dropped f.ended) (f.clauses 𝓤 H A mem run) .Ghost
     Entered = ((κs, qs, tt, a, vs), tt)
 
     abbrev Fitted : ℕ → Type 0
@@ -114,7 +111,7 @@ module _ {M : Type 1} (𝓤 : URA M) (H : Heap 𝓤) (A : Atoms 𝓤) (W : Given
 
     module _ (C : Calls 𝓤 H) (Λ : Loops 𝓤 H) (fm : FmC 𝓤 H (W .laws) C) (known-fit : Triple 𝓤 (C fit-def.name) Fit) (known-blank : Triple 𝓤 (C blank-def.name) Blank)
         (known-in : Triple 𝓤 (C copy-in-def.name) CopyIn) (known-check : Triple 𝓤 (C check-def.name) Check) where
-      walk : ent 𝓤 (onEntry 𝓤 H A f.signature κs qs a vs) (WpFn 𝓤 H C Λ code.function (flat (typesAt (f.signature .params) κs) vs) (walkOf 𝓤 H A f.ended stayed (f.clauses 𝓤 H A mem run) .post Entered))
+      walk : Walk 𝓤 H A W f.ended (dropped f.ended) (f.clauses 𝓤 H A mem run) code.function C Λ Entered
       walk =
           begins 𝓤 H A W f.signature κs qs a vs ∵ enter ! C Λ code.function _ _ $ allocated ! (λ l. params1 ! $
           pass1 ! (init ! 14 refl (tt, (tt, (record { fits = are .0 .0 .1 .0 }, tt)))) $ pass1 ! (init ! 12 refl (tt, (tt, (record { fits = are .1 .0 .0 .1 .0 }, tt)))) $
@@ -150,17 +147,13 @@ module _ {M : Type 1} (𝓤 : URA M) (H : Heap 𝓤) (A : Atoms 𝓤) (W : Given
   meets : (𝓣 : Tables 𝓤 H) → Triple 𝓤 (𝓣 .C fit-def.name) Fit → Triple 𝓤 (𝓣 .C blank-def.name) Blank → Triple 𝓤 (𝓣 .C copy-in-def.name) CopyIn → Triple 𝓤 (𝓣 .C check-def.name) Check
       → Meets 𝓤 H A f.signature (WpFn 𝓤 H (𝓣 .C) (𝓣 .Λ) code.function) (f.spec 𝓤 H A mem run)
   meets 𝓣 k₁ k₂ k₃ k₄ =
-      walk-meets 𝓤 H A f.ended stayed W (dropped-go 𝓤 H A W f.ended (λ κs x w. refl, (λ κs x w. refl, (λ κs x w. refl, (λ κs x w. refl, tt)))))
-      (f.clauses 𝓤 H A mem run) (WpFn 𝓤 H (𝓣 .C) (𝓣 .Λ) code.function) (WpFn-mono 𝓤 H (W .laws) 𝓣 code.function)
-      (walked 𝓤 H A f.ended stayed (f.clauses 𝓤 H A mem run) (WpFn 𝓤 H (𝓣 .C) (𝓣 .Λ) code.function) check-spells check-tells
-      (λ κs qs bounds a g are. via 𝓤 _ (fst∗ 𝓤 _ (emp 𝓤)) (walk κs qs a are (𝓣 .C) (𝓣 .Λ) (fmOf 𝓤 H (W .laws) 𝓣) k₁ k₂ k₃ k₄)))
+      met-by 𝓤 H A W f.ended (dropped f.ended) (f.clauses 𝓤 H A mem run) code.function 𝓣 (dropped-go 𝓤 H A W f.ended (λ κs x w. refl, (λ κs x w. refl, (λ κs x w. refl, (λ κs x w. refl, tt))))) check-spells check-tells
+      (λ κs qs bounds a g are. via 𝓤 _ (fst∗ 𝓤 _ (emp 𝓤)) (walk κs qs a are (𝓣 .C) (𝓣 .Λ) (fmOf 𝓤 H (W .laws) 𝓣) k₁ k₂ k₃ k₄))
 
 pub check-plan-spec : {M : Type 1} → stated.statement M
 unfolding code.routine tablesOf
 check-plan-spec 𝓤 H 𝓜 𝓖 𝓡 =
-    entered 𝓤 H (tripleOf 𝓤 H (𝓖 .A) f.signature (f.spec 𝓤 H (𝓖 .A) (𝓜 .mem) (𝓡 .run)))
-    (tables 𝓤 H 𝓜 𝓡 code.env .C) (tables 𝓤 H 𝓜 𝓡 code.env .Λ) #f code.function (code.unfolded 𝓤 H 𝓜 𝓡)
-    (meets 𝓤 H (𝓖 .A) (givenOf 𝓤 H 𝓜 𝓖) (𝓜 .mem) (𝓡 .run) (tablesOf 𝓤 H 𝓜 (tables 𝓤 H 𝓜 𝓡 code.env))
+    entered 𝓤 H _ _ _ #f code.function (code.unfolded 𝓤 H 𝓜 𝓡) (meets 𝓤 H (𝓖 .A) (givenOf 𝓤 H 𝓜 𝓖) (𝓜 .mem) (𝓡 .run) (tablesOf 𝓤 H 𝓜 (tables 𝓤 H 𝓜 𝓡 code.env))
     (cited 𝓤 H _ 𝓜 𝓡 code.env fit-def.name fit-def.routine code.calls-plans·fit (fit-thm.met 𝓤 H 𝓜 𝓖 𝓡))
     (cited 𝓤 H _ 𝓜 𝓡 code.env blank-def.name blank-def.routine code.calls-forms·blank (blank-thm.met 𝓤 H 𝓜 𝓖 𝓡))
     (cited 𝓤 H _ 𝓜 𝓡 code.env copy-in-def.name copy-in-def.routine code.calls-plans·copy-in (copy-in-thm.met 𝓤 H 𝓜 𝓖 𝓡))

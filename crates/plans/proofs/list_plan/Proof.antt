@@ -39,7 +39,7 @@ use denote.Triple.Statement.{Contract, Triple}
 use denote.Triple.Call.{calls-at}
 use denote.Triple.Clauses.{ensured, lasts}
 use denote.Triple.Table.{entered, cited}
-use denote.Triple.Walked.{walkOf, walked, walk-meets}
+use denote.Triple.Walked.{walkOf}
 use denote.Exit.{yes}
 use Rattle.terms.specs.Replies.{IsListed}
 use Rattle.terms.specs.declared.Entry.{Entry}
@@ -49,7 +49,7 @@ use Rattle.listplan.specs.Drafts.{IsDraft}
 use Rattle.plans.specs.Copies.{over}
 use Rattle.plans.proofs.Lending.{Row, Table, table-makes, list-spells, list-tells, list-vals, ListAre, list-stay, list-go, list-had}
 use Rattle.plans.proofs.Locals.{held, locals, allocated, let-go, passing, sets, sets-result}
-use Rattle.plans.proofs.Asking.{begins, brings, asks, ends}
+use Rattle.plans.proofs.Asking.{begins, brings, asks, ends, Walk, met-by}
 use Rattle.plans.proofs.Rows.{fits, listed}
 use Rattle.terms.proofs.Entry as T
 use Rattle.terms.proofs.Entry.Laws as T′
@@ -121,7 +121,7 @@ module _ {M : Type 1} (𝓤 : URA M) (H : Heap 𝓤) (A : Atoms 𝓤) (W : Given
     room = are .1 .1 .1 .1 .0 .0 .1 .0
 
     module _ (C : Calls 𝓤 H) (Λ : Loops 𝓤 H) (fm : FmC 𝓤 H (W .laws) C) (known-decide : Triple 𝓤 (C decide-def.name) Decide) (known-out : Triple 𝓤 (C copy-out-def.name) CopyOut) where
-      walk : ent 𝓤 (onEntry 𝓤 H A f.signature κs qs a vs) (WpFn 𝓤 H C Λ code.function (flat (typesAt (f.signature .params) κs) vs) (walkOf 𝓤 H A f.ended list-stay (f.clauses 𝓤 H A mem run) .post Entered))
+      walk : Walk 𝓤 H A W f.ended list-stay (f.clauses 𝓤 H A mem run) code.function C Λ Entered
       walk =
           begins 𝓤 H A W f.signature κs qs a vs ∵ enter ! C Λ code.function _ _ $ allocated ! (λ l. params1 ! $
           pass1 ! (init ! 18 refl (tt, (tt, (record { fits = are .0 .0 .1 .0 }, tt)))) $ pass1 ! (init ! 16 refl (tt, (tt, (record { fits = are .1 .0 .0 .1 .0 }, tt)))) $
@@ -165,9 +165,8 @@ module _ {M : Type 1} (𝓤 : URA M) (H : Heap 𝓤) (A : Atoms 𝓤) (W : Given
 
   meets : (𝓣 : Tables 𝓤 H) → Triple 𝓤 (𝓣 .C decide-def.name) Decide → Triple 𝓤 (𝓣 .C copy-out-def.name) CopyOut → Meets 𝓤 H A f.signature (WpFn 𝓤 H (𝓣 .C) (𝓣 .Λ) code.function) (f.spec 𝓤 H A mem run)
   meets 𝓣 k₁ k₂ =
-      walk-meets 𝓤 H A f.ended list-stay W (list-go 𝓤 H A W) (f.clauses 𝓤 H A mem run) (WpFn 𝓤 H (𝓣 .C) (𝓣 .Λ) code.function) (WpFn-mono 𝓤 H (W .laws) 𝓣 code.function)
-      (walked 𝓤 H A f.ended list-stay (f.clauses 𝓤 H A mem run) (WpFn 𝓤 H (𝓣 .C) (𝓣 .Λ) code.function) list-spells list-tells
-      (λ κs qs bounds a g are. via 𝓤 _ (fst∗ 𝓤 _ (emp 𝓤)) (walk κs qs a are (𝓣 .C) (𝓣 .Λ) (fmOf 𝓤 H (W .laws) 𝓣) k₁ k₂)))
+      met-by 𝓤 H A W f.ended list-stay (f.clauses 𝓤 H A mem run) code.function 𝓣 (list-go 𝓤 H A W) list-spells list-tells
+      (λ κs qs bounds a g are. via 𝓤 _ (fst∗ 𝓤 _ (emp 𝓤)) (walk κs qs a are (𝓣 .C) (𝓣 .Λ) (fmOf 𝓤 H (W .laws) 𝓣) k₁ k₂))
 
 pub list-plan-spec : {M : Type 1} → stated.statement M
 unfolding code.routine tablesOf
