@@ -74,6 +74,10 @@ module _ {M : Type 1} (𝓤 : URA M) (H : Heap 𝓤) (A : Atoms 𝓤) where
       via 𝓤 (sep 𝓤 (⋆ 𝓤 H A (tokens (S .lifetimes) κs qs)) (⋆ 𝓤 H A (owned-by (typesAt (S .params) κs) a vss))) (mono∗ 𝓤 (each-token (S .lifetimes) κs qs) (each-owned (typesAt (S .params) κs) a vss))
       (via 𝓤 (⋆ 𝓤 H A (tokens (S .lifetimes) κs qs ++ owned-by (typesAt (S .params) κs) a vss)) (++⊢ 𝓤 H A (tokens (S .lifetimes) κs qs) (owned-by (typesAt (S .params) κs) a vss)) (s .prf))
 
+-- a function f that is called meets its contract
+pub record Known {M : Type 1} (𝓤 : URA M) (H : Heap 𝓤) (A : Atoms 𝓤) (C : Calls 𝓤 H) (f : Name) (T : Ended) (c : Clauses 𝓤 T) : Type 1 where
+  pub met : Triple 𝓤 (C f) (tripleOf 𝓤 H A (T .signature) (closing 𝓤 H A T c))
+
 module _ {M : Type 1} {𝓤 : URA M} {H : Heap 𝓤} {A : Atoms 𝓤} {K : Type 0} {W : Given 𝓤 H A} {Γ : List (Item 𝓤)} where
   -- what a callee asks: the tokens are the first k entries, what its parameters own the next l, and R is had for nothing
   pub brings : K → {G : Goal 𝓤 H} (k l : ℕ) (R : SProp 𝓤) → ent 𝓤 (emp 𝓤) R
@@ -91,14 +95,14 @@ module _ {M : Type 1} {𝓤 : URA M} {H : Heap 𝓤} {A : Atoms 𝓤} {K : Type 
 
   -- the call: x and g are what the callee's triple binds outside, and Said is what it promises of the result r and of the last values ws
   module _ {E : Env 𝓤 H} {C : Calls 𝓤 H} {Λ : Loops 𝓤 H} {q : Post 𝓤 H} {f : Name} {xs : List Operand} {d : Place} {b : Body} where
-    pub asks : K → FmC 𝓤 H (W .laws) C → (T : Ended) (c : Clauses 𝓤 T) → Triple 𝓤 (C f) (tripleOf 𝓤 H A (T .signature) (closing 𝓤 H A T c))
+    pub asks : K → FmC 𝓤 H (W .laws) C → {T : Ended} {c : Clauses 𝓤 T} → Known 𝓤 H A C f T c
         → (y : tripleOf 𝓤 H A (T .signature) (closing 𝓤 H A T c) .Ghost) (Said : Res (T .signature) (y .0 .0) → Lasts T (y .0 .0) (y .0 .3) → Type 0)
         → ((r : Res (T .signature) (y .0 .0)) (ws : Lasts T (y .0 .0) (y .0 .3)) → ent 𝓤 (c (y .0 .0) (y .0 .3) .ensures (y .1) r (atExit T (y .0 .0) (y .0 .3) ws)) (fact 𝓤 (Said r ws)))
         → Opds K W (raw (tripleOf 𝓤 H A (T .signature) (closing 𝓤 H A T c) .pre y) ∷ Γ) E xs (tripleOf 𝓤 H A (T .signature) (closing 𝓤 H A T c) .args y)
         → ((w : Val) (r : Res (T .signature) (y .0 .0)) (ws : Lasts T (y .0 .0) (y .0 .3)) → Said r ws → Is (typeAt (T .signature .result) (y .0 .0)) r (w ∷ [])
           → Seq K W (tokens (T .signature .lifetimes) (y .0 .0) (y .0 .1) ++ ‵ (typeAt (T .signature .result) (y .0 .0) .own r (w ∷ [])) ∷ ‵ (lasts T (y .0 .0) (y .0 .3) ws) ∷ Γ) (lands C Λ E d w b q))
         → Seq K W (raw (tripleOf 𝓤 H A (T .signature) (closing 𝓤 H A T c) .pre y) ∷ Γ) (runs C Λ E (seq (call f xs d) b) q)
-    asks t fm T c met y Said says os k = calls-at t fm (tripleOf 𝓤 H A (T .signature) (closing 𝓤 H A T c)) met y os (λ w.
+    asks t fm {T} {c} known y Said says os k = calls-at t fm (tripleOf 𝓤 H A (T .signature) (closing 𝓤 H A T c)) (known .met) y os (λ w.
         use1 W (later (some (λ (r : Res (T .signature) (y .0 .0)). (raw (alive 𝓤 H A (T .signature) (y .0 .0) (y .0 .1)) ⊛ ‵ (typeAt (T .signature .result) (y .0 .0) .own r (w ∷ [])))
           ⊛ some (λ (ws : Lasts T (y .0 .0) (y .0 .3)). ‵ (lasts T (y .0 .0) (y .0 .3) ws) ⊛ raw (c (y .0 .0) (y .0 .3) .ensures (y .1) r (atExit T (y .0 .0) (y .0 .3) ws)))))) (id⊢ 𝓤 _) $
         await t tt $ pick t (λ r. split t $ move t (1 ∷ []) $ pick t (λ ws. split t $ move t (1 ∷ []) $ use1 W (raw (fact 𝓤 (Said r ws))) (says r ws) $ heard t (Said r ws) (λ h.
