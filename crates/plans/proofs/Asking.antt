@@ -57,7 +57,7 @@ module _ {M : Type 1} (𝓤 : URA M) (H : Heap 𝓤) (A : Atoms 𝓤) where
       via 𝓤 (sep 𝓤 (mean 𝓤 H A i) (⋆ 𝓤 H A Γ)) (pop 𝓤 H A i Γ)
       (via 𝓤 (sep 𝓤 (mean 𝓤 H A i) (sep 𝓤 (⋆ 𝓤 H A (front k Γ)) (⋆ 𝓤 H A (back k Γ)))) (monoR 𝓤 (mean 𝓤 H A i) (parted k Γ))
       (via 𝓤 (sep 𝓤 (sep 𝓤 (mean 𝓤 H A i) (⋆ 𝓤 H A (front k Γ))) (⋆ 𝓤 H A (back k Γ))) (assoc′ 𝓤 (mean 𝓤 H A i) (⋆ 𝓤 H A (front k Γ)) (⋆ 𝓤 H A (back k Γ)))
-        (monoL 𝓤 (⋆ 𝓤 H A (back k Γ)) (push 𝓤 H A i (front k Γ)))))
+      (monoL 𝓤 (⋆ 𝓤 H A (back k Γ)) (push 𝓤 H A i (front k Γ)))))
 
   each-token : (n : ℕ) (κs : Lfts n) (qs : Shares n) → ent 𝓤 (toks 𝓤 A n κs qs) (⋆ 𝓤 H A (tokens n κs qs))
   each-token zero κs qs = id⊢ 𝓤 (emp 𝓤)
@@ -88,9 +88,9 @@ module _ {M : Type 1} {𝓤 : URA M} {H : Heap 𝓤} {A : Atoms 𝓤} {K : Type 
       let X : SProp 𝓤 = ⋆ 𝓤 H A (back l (back k Γ)) in
       step (λ s. record {
         prf =
-          via 𝓤 (sep 𝓤 P (⋆ 𝓤 H A (back k Γ))) (parted 𝓤 H A k Γ) (via 𝓤 (sep 𝓤 P (sep 𝓤 Q X)) (monoR 𝓤 P (parted 𝓤 H A l (back k Γ)))
-          (via 𝓤 (sep 𝓤 (sep 𝓤 P Q) X) (assoc′ 𝓤 P Q X) (via 𝓤 (sep 𝓤 (sep 𝓤 (sep 𝓤 P Q) R) X) (monoL 𝓤 X (with-nothing 𝓤 H A (sep 𝓤 P Q) R h))
-          (via 𝓤 (⋆ 𝓤 H A (raw (sep 𝓤 (sep 𝓤 P Q) R) ∷ back l (back k Γ))) (push 𝓤 H A (raw (sep 𝓤 (sep 𝓤 P Q) R)) (back l (back k Γ))) (s .prf)))));
+            via 𝓤 (sep 𝓤 P (⋆ 𝓤 H A (back k Γ))) (parted 𝓤 H A k Γ) (via 𝓤 (sep 𝓤 P (sep 𝓤 Q X)) (monoR 𝓤 P (parted 𝓤 H A l (back k Γ)))
+            (via 𝓤 (sep 𝓤 (sep 𝓤 P Q) X) (assoc′ 𝓤 P Q X) (via 𝓤 (sep 𝓤 (sep 𝓤 (sep 𝓤 P Q) R) X) (monoL 𝓤 X (with-nothing 𝓤 H A (sep 𝓤 P Q) R h))
+            (via 𝓤 (⋆ 𝓤 H A (raw (sep 𝓤 (sep 𝓤 P Q) R) ∷ back l (back k Γ))) (push 𝓤 H A (raw (sep 𝓤 (sep 𝓤 P Q) R)) (back l (back k Γ))) (s .prf)))));
       })
 
   -- the call: x and g are what the callee's triple binds outside, and Said is what it promises of the result r and of the last values ws
@@ -100,11 +100,11 @@ module _ {M : Type 1} {𝓤 : URA M} {H : Heap 𝓤} {A : Atoms 𝓤} {K : Type 
         → ((r : Res (T .signature) (y .0 .0)) (ws : Lasts T (y .0 .0) (y .0 .3)) → ent 𝓤 (c (y .0 .0) (y .0 .3) .ensures (y .1) r (atExit T (y .0 .0) (y .0 .3) ws)) (fact 𝓤 (Said r ws)))
         → Opds K W (raw (tripleOf 𝓤 H A (T .signature) (closing 𝓤 H A T c) .pre y) ∷ Γ) E xs (tripleOf 𝓤 H A (T .signature) (closing 𝓤 H A T c) .args y)
         → ((w : Val) (r : Res (T .signature) (y .0 .0)) (ws : Lasts T (y .0 .0) (y .0 .3)) → Said r ws → Is (typeAt (T .signature .result) (y .0 .0)) r (w ∷ [])
-          → Seq K W (tokens (T .signature .lifetimes) (y .0 .0) (y .0 .1) ++ ‵ (typeAt (T .signature .result) (y .0 .0) .own r (w ∷ [])) ∷ ‵ (lasts T (y .0 .0) (y .0 .3) ws) ∷ Γ) (lands C Λ E d w b q))
+        → Seq K W (tokens (T .signature .lifetimes) (y .0 .0) (y .0 .1) ++ ‵ (typeAt (T .signature .result) (y .0 .0) .own r (w ∷ [])) ∷ ‵ (lasts T (y .0 .0) (y .0 .3) ws) ∷ Γ) (lands C Λ E d w b q))
         → Seq K W (raw (tripleOf 𝓤 H A (T .signature) (closing 𝓤 H A T c) .pre y) ∷ Γ) (runs C Λ E (seq (call f xs d) b) q)
     asks t fm {T} {c} known y Said says os k = calls-at t fm (tripleOf 𝓤 H A (T .signature) (closing 𝓤 H A T c)) (known .met) y os (λ w.
         use1 W (later (some (λ (r : Res (T .signature) (y .0 .0)). (raw (alive 𝓤 H A (T .signature) (y .0 .0) (y .0 .1)) ⊛ ‵ (typeAt (T .signature .result) (y .0 .0) .own r (w ∷ [])))
-          ⊛ some (λ (ws : Lasts T (y .0 .0) (y .0 .3)). ‵ (lasts T (y .0 .0) (y .0 .3) ws) ⊛ raw (c (y .0 .0) (y .0 .3) .ensures (y .1) r (atExit T (y .0 .0) (y .0 .3) ws)))))) (id⊢ 𝓤 _) $
+        ⊛ some (λ (ws : Lasts T (y .0 .0) (y .0 .3)). ‵ (lasts T (y .0 .0) (y .0 .3) ws) ⊛ raw (c (y .0 .0) (y .0 .3) .ensures (y .1) r (atExit T (y .0 .0) (y .0 .3) ws)))))) (id⊢ 𝓤 _) $
         await t tt $ pick t (λ r. split t $ move t (1 ∷ []) $ pick t (λ ws. split t $ move t (1 ∷ []) $ use1 W (raw (fact 𝓤 (Said r ws))) (says r ws) $ heard t (Said r ws) (λ h.
         -- [the last values; the tokens and the result]
         move t (1 ∷ []) $ split t $ move t (1 ∷ []) $
@@ -168,8 +168,8 @@ module _ {M : Type 1} (𝓤 : URA M) (H : Heap 𝓤) (A : Atoms 𝓤) (W : Given
   pub met-by : (𝓣 : Tables 𝓤 H) → AllGo 𝓤 H A W (T .signature .lifetimes) (T .signature .params) (T .kept) hs
       → (sp : (κs : Lfts (T .signature .lifetimes)) → Spells (typesAt (T .signature .params) κs)) → ((κs : Lfts (T .signature .lifetimes)) → Tellss (typesAt (T .signature .params) κs) (Ises (typesAt (T .signature .params) κs)) (sp κs))
       → ((κs : Lfts (T .signature .lifetimes)) (qs : Shares (T .signature .lifetimes)) (bounds : AllOutlive (T .signature .lifetimes) (T .signature .outlives) κs) (a : Args (T .signature) κs) (g : c κs a .ghost)
-        → Are (typesAt (T .signature .params) κs) (Ises (typesAt (T .signature .params) κs)) a (valss (typesAt (T .signature .params) κs) (sp κs) a)
-        → ent 𝓤 (sep 𝓤 (onEntry 𝓤 H A (T .signature) κs qs a (valss (typesAt (T .signature .params) κs) (sp κs) a)) (c κs a .requires g))
-          (WpFn 𝓤 H (𝓣 .C) (𝓣 .Λ) fn (flat (typesAt (T .signature .params) κs) (valss (typesAt (T .signature .params) κs) (sp κs) a)) (walkOf 𝓤 H A T hs c .post ((κs, qs, bounds, a, valss (typesAt (T .signature .params) κs) (sp κs) a), g))))
+      → Are (typesAt (T .signature .params) κs) (Ises (typesAt (T .signature .params) κs)) a (valss (typesAt (T .signature .params) κs) (sp κs) a)
+      → ent 𝓤 (sep 𝓤 (onEntry 𝓤 H A (T .signature) κs qs a (valss (typesAt (T .signature .params) κs) (sp κs) a)) (c κs a .requires g))
+      (WpFn 𝓤 H (𝓣 .C) (𝓣 .Λ) fn (flat (typesAt (T .signature .params) κs) (valss (typesAt (T .signature .params) κs) (sp κs) a)) (walkOf 𝓤 H A T hs c .post ((κs, qs, bounds, a, valss (typesAt (T .signature .params) κs) (sp κs) a), g))))
       → Meets 𝓤 H A (T .signature) (WpFn 𝓤 H (𝓣 .C) (𝓣 .Λ) fn) (closing 𝓤 H A T c)
   met-by 𝓣 gs sp tl k = walk-meets 𝓤 H A T hs W gs c (WpFn 𝓤 H (𝓣 .C) (𝓣 .Λ) fn) (WpFn-mono 𝓤 H (W .laws) 𝓣 fn) (walked 𝓤 H A T hs c (WpFn 𝓤 H (𝓣 .C) (𝓣 .Λ) fn) sp tl k)

@@ -94,9 +94,13 @@ module _ {M : Type 1} (𝓤 : URA M) (H : Heap 𝓤) (A : Atoms 𝓤) (W : Given
   pub list-go : AllGo 𝓤 H A W 4 ListSlots (yes, (yes, (yes, (yes, (yes, tt))))) list-stay
   list-go = (
     goes-dropped 𝓤 H A W 4 (shrSliceOf (0 ∷ []) tt (plain (λ _. u16))) yes (λ κs x w. refl),
-    (goes-dropped 𝓤 H A W 4 (shrSliceOf (1 ∷ []) tt (plain (λ _. Arrow))) yes (λ κs x w. refl),
-    (goes-dropped 𝓤 H A W 4 (plain (λ _. u32)) yes (λ κs x w. refl),
-    (goes-dropped 𝓤 H A W 4 (shrSliceOf (2 ∷ []) tt (plain (λ _. u16))) yes (λ κs x w. refl), (goes-gave-slice 𝓤 H A W 4 3 tt (plain (λ _. Row)), tt)))),
+    (
+      goes-dropped 𝓤 H A W 4 (shrSliceOf (1 ∷ []) tt (plain (λ _. Arrow))) yes (λ κs x w. refl),
+      (
+        goes-dropped 𝓤 H A W 4 (plain (λ _. u32)) yes (λ κs x w. refl),
+        (goes-dropped 𝓤 H A W 4 (shrSliceOf (2 ∷ []) tt (plain (λ _. u16))) yes (λ κs x w. refl), (goes-gave-slice 𝓤 H A W 4 3 tt (plain (λ _. Row)), tt)),
+      ),
+    ),
   )
 
   pub list-had : (F : Fml) → ent 𝓤 (sem 𝓤 H A F) (sem 𝓤 H A (fsep ftrue (fsep ftrue (fsep ftrue (fsep ftrue (fsep F ftrue))))))

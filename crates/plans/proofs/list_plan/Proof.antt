@@ -119,9 +119,16 @@ module _ {M : Type 1} (𝓤 : URA M) (H : Heap 𝓤) (A : Atoms 𝓤) (W : Given
         -- [_10; …; _0; …; the four tokens; true; the times; the arrows; m; the order; the plan; true]: `draft_plan`
         nothing ! $ owned ! usize (Is usize) (uint-makes 𝓤 H A W w64) n _ (refl, room) $
         move ! (24 ∷ 25 ∷ 26 ∷ 28 ∷ 29 ∷ 30 ∷ 31 ∷ 32 ∷ 0 ∷ 1 ∷ []) $ brings ! 4 6 _ (id⊢ 𝓤 _) $
-        asks ! (fmOf 𝓤 H (W .laws) 𝓣) known-decide
-        (((κs .0, (κs .1 .0, (κs .1 .1 .0, tt))), (qs .0, (qs .1 .0, (qs .1 .1 .0, tt))), tt, (a .0, (a .1 .0, (m, (a .1 .1 .1 .0, (n, tt))))),
-        (vs .0, (vs .1 .0, (vs .1 .1 .0, (vs .1 .1 .1 .0, (vint w64 n ∷ [], tt)))))), tt) (λ d _. IsDraft times arrows m order n d) (λ d _. id⊢ 𝓤 _)
+        asks ! (fmOf 𝓤 H (W .laws) 𝓣) known-decide (
+          (
+            (κs .0, (κs .1 .0, (κs .1 .1 .0, tt))),
+            (qs .0, (qs .1 .0, (qs .1 .1 .0, tt))),
+            tt,
+            (a .0, (a .1 .0, (m, (a .1 .1 .1 .0, (n, tt))))),
+            (vs .0, (vs .1 .0, (vs .1 .1 .0, (vs .1 .1 .1 .0, (vint w64 n ∷ [], tt))))),
+          ),
+          tt,
+        ) (λ d _. IsDraft times arrows m order n d) (λ d _. id⊢ 𝓤 _)
         (passing ! 19 refl (passing ! 17 refl (passing ! 15 refl (passing ! 13 refl (passing ! 9 refl (no-more !)))))) (λ w₆ d _ h is.
         -- [three tokens; true; the draft; nothing; _10; …; _0; …; the fourth token; the plan; true]: the draft's machine value is spelled out, so that its fields can be read
         sets-result ! 12 refl (LL.lawful D.the-type D′.the-laws 𝓤 H A W .typed d _ is .0) $
