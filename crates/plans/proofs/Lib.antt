@@ -1,3 +1,4 @@
+pub mod Walking
 pub mod Local
 pub mod Locals
 pub mod Asking
