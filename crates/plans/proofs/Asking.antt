@@ -1,12 +1,13 @@
--- How a walk by hand calls a function that meets its contract, and how it ends: what the callee asks is brought from the front of the context, what it promises is learned, and what the caller must have at its end is put together.
+-- How a walk by hand begins, calls a function that meets its contract, and ends: what the callee asks is brought from the front of the context,
+-- what it promises is learned, and what the caller must have at its end is put together.
 -- It says nothing of the crate, and can be copied as it stands. Assumes `Given`.
 use Rattle.plans.proofs.Walking.{ℕ, zero, suc, List, [], _∷_, _++_, URA, Name, Place, Operand, Body, seq, call, Fn, Val, SProp, ent, sep, emp, id⊢}
 use Rattle.plans.proofs.Walking.{via, comm∗, assoc′, mono∗, monoL, monoR, emp∗, Fml, ftrue, flft, Heap, Env, Calls, Loops, WpFn, Tables, Atoms, sem}
 use Rattle.plans.proofs.Walking.{Lfts, Shares, AllOutlive, toks, fact, Given, Item, ‵, raw, some, later, _⊛_, mean, ⋆, pop, push, ++⊢, Post, Goal}
 use Rattle.plans.proofs.Walking.{prop, runs, lands, Seq, Sq, Step, step, _$_, _∵_, !, qed, by, cut, move, use1, split, pick, await, Opds, FmC}
-use Rattle.plans.proofs.Walking.{WpFn-mono, RattleType, Denots, Valss, owns, flat, Is, Ises, Are, Spells, Tellss, valss, shows, heard, peeks, nothing}
+use Rattle.plans.proofs.Walking.{WpFn-mono, RattleType, Denots, Valss, owns, Is, Ises, Are, Spells, Tellss, valss, shows, heard, peeks, nothing}
 use Rattle.plans.proofs.Walking.{Slot, Signature, typeAt, typesAt, Args, Vals, Res, alive, onEntry, calls-at, Ended, Clauses, Lasts, atExit, lasts}
-use Rattle.plans.proofs.Walking.{closing, Kepts, Fins, Meets, tripleOf, Triple, Stays, stay-dropped, Silent, AllGo, goes-dropped, hasOf, Fit, walkOf}
+use Rattle.plans.proofs.Walking.{closing, Kepts, Fins, Meets, tripleOf, Contract, Triple, Stays, stay-dropped, Silent, AllGo, goes-dropped, hasOf, Fit, walkOf}
 use Rattle.plans.proofs.Walking.{Ending, ends-at, walked, walk-meets}
 
 module _ {M : Type 1} {𝓤 : URA M} where
@@ -37,29 +38,54 @@ module _ {M : Type 1} (𝓤 : URA M) (H : Heap 𝓤) (A : Atoms 𝓤) where
   parted zero Γ = emp∗ 𝓤 (⋆ 𝓤 H A Γ)
   parted (suc k) [] = emp∗ 𝓤 (emp 𝓤)
   parted (suc k) (i ∷ Γ) =
-      via 𝓤 (sep 𝓤 (mean 𝓤 H A i) (⋆ 𝓤 H A Γ)) (pop 𝓤 H A i Γ)
-      (via 𝓤 (sep 𝓤 (mean 𝓤 H A i) (sep 𝓤 (⋆ 𝓤 H A (front k Γ)) (⋆ 𝓤 H A (back k Γ)))) (monoR 𝓤 (mean 𝓤 H A i) (parted k Γ))
-      (via 𝓤 (sep 𝓤 (sep 𝓤 (mean 𝓤 H A i) (⋆ 𝓤 H A (front k Γ))) (⋆ 𝓤 H A (back k Γ))) (assoc′ 𝓤 (mean 𝓤 H A i) (⋆ 𝓤 H A (front k Γ)) (⋆ 𝓤 H A (back k Γ)))
-      (monoL 𝓤 (⋆ 𝓤 H A (back k Γ)) (push 𝓤 H A i (front k Γ)))))
+      let X : SProp 𝓤 = mean 𝓤 H A i in
+      let F : SProp 𝓤 = ⋆ 𝓤 H A (front k Γ) in
+      let B : SProp 𝓤 = ⋆ 𝓤 H A (back k Γ) in
+      via 𝓤 (sep 𝓤 X (⋆ 𝓤 H A Γ)) (pop 𝓤 H A i Γ) (via 𝓤 (sep 𝓤 X (sep 𝓤 F B)) (monoR 𝓤 X (parted k Γ))
+      (via 𝓤 (sep 𝓤 (sep 𝓤 X F) B) (assoc′ 𝓤 X F B) (monoL 𝓤 B (push 𝓤 H A i (front k Γ)))))
 
   each-token : (n : ℕ) (κs : Lfts n) (qs : Shares n) → ent 𝓤 (toks 𝓤 A n κs qs) (⋆ 𝓤 H A (tokens n κs qs))
   each-token zero κs qs = id⊢ 𝓤 (emp 𝓤)
-  each-token (suc n) κs qs = via 𝓤 (sep 𝓤 (A .lft (κs .0) (qs .0)) (⋆ 𝓤 H A (tokens n (κs .1) (qs .1)))) (monoR 𝓤 (A .lft (κs .0) (qs .0)) (each-token n (κs .1) (qs .1))) (push 𝓤 H A (‵ (flft (κs .0) (qs .0))) (tokens n (κs .1) (qs .1)))
+  each-token (suc n) κs qs =
+      let X : SProp 𝓤 = A .lft (κs .0) (qs .0) in
+      via 𝓤 (sep 𝓤 X (⋆ 𝓤 H A (tokens n (κs .1) (qs .1)))) (monoR 𝓤 X (each-token n (κs .1) (qs .1))) (push 𝓤 H A (‵ (flft (κs .0) (qs .0))) (tokens n (κs .1) (qs .1)))
 
   each-owned : (Rs : List RattleType) (a : Denots Rs) (vss : Valss Rs) → ent 𝓤 (sem 𝓤 H A (owns Rs a vss)) (⋆ 𝓤 H A (owned-by Rs a vss))
   each-owned [] a vss = id⊢ 𝓤 (emp 𝓤)
-  each-owned (R ∷ Rs) a vss = via 𝓤 (sep 𝓤 (sem 𝓤 H A (R .own (a .0) (vss .0))) (⋆ 𝓤 H A (owned-by Rs (a .1) (vss .1)))) (monoR 𝓤 (sem 𝓤 H A (R .own (a .0) (vss .0))) (each-owned Rs (a .1) (vss .1))) (push 𝓤 H A (‵ (R .own (a .0) (vss .0))) (owned-by Rs (a .1) (vss .1)))
+  each-owned (R ∷ Rs) a vss =
+      let X : Fml = R .own (a .0) (vss .0) in
+      via 𝓤 (sep 𝓤 (sem 𝓤 H A X) (⋆ 𝓤 H A (owned-by Rs (a .1) (vss .1)))) (monoR 𝓤 (sem 𝓤 H A X) (each-owned Rs (a .1) (vss .1))) (push 𝓤 H A (‵ X) (owned-by Rs (a .1) (vss .1)))
 
   -- a walk begins with all of these in the context
   pub begins : (W : Given 𝓤 H A) (S : Signature) (κs : Lfts (S .lifetimes)) (qs : Shares (S .lifetimes)) (a : Args S κs) (vss : Vals S κs) {P : SProp 𝓤}
       → Sq W (tokens (S .lifetimes) κs qs ++ owned-by (typesAt (S .params) κs) a vss) (prop P) → ent 𝓤 (onEntry 𝓤 H A S κs qs a vss) P
   begins W S κs qs a vss s =
-      via 𝓤 (sep 𝓤 (⋆ 𝓤 H A (tokens (S .lifetimes) κs qs)) (⋆ 𝓤 H A (owned-by (typesAt (S .params) κs) a vss))) (mono∗ 𝓤 (each-token (S .lifetimes) κs qs) (each-owned (typesAt (S .params) κs) a vss))
-      (via 𝓤 (⋆ 𝓤 H A (tokens (S .lifetimes) κs qs ++ owned-by (typesAt (S .params) κs) a vss)) (++⊢ 𝓤 H A (tokens (S .lifetimes) κs qs) (owned-by (typesAt (S .params) κs) a vss)) (s .prf))
+      let Δ : List (Item 𝓤) = tokens (S .lifetimes) κs qs in
+      let Θ : List (Item 𝓤) = owned-by (typesAt (S .params) κs) a vss in
+      via 𝓤 (sep 𝓤 (⋆ 𝓤 H A Δ) (⋆ 𝓤 H A Θ)) (mono∗ 𝓤 (each-token (S .lifetimes) κs qs) (each-owned (typesAt (S .params) κs) a vss))
+      (via 𝓤 (⋆ 𝓤 H A (Δ ++ Θ)) (++⊢ 𝓤 H A Δ Θ) (s .prf))
+
+-- of a function with its contract: how many lifetimes there are, the types of its parameters and of its result, the contract as a triple, and what it promises
+module _ (T : Ended) where
+  abbrev lives : ℕ
+  lives = T .signature .lifetimes
+
+  abbrev Types : Lfts lives → List RattleType
+  Types = typesAt (T .signature .params)
+
+  abbrev Result : Lfts lives → RattleType
+  Result = typeAt (T .signature .result)
+
+module _ {M : Type 1} (𝓤 : URA M) (H : Heap 𝓤) (A : Atoms 𝓤) (T : Ended) (c : Clauses 𝓤 T) where
+  abbrev Asked : Contract 𝓤
+  Asked = tripleOf 𝓤 H A (T .signature) (closing 𝓤 H A T c)
+
+  abbrev Promised : (y : Asked .Ghost) → Res (T .signature) (y .0 .0) → Lasts T (y .0 .0) (y .0 .3) → SProp 𝓤
+  Promised y r ws = c (y .0 .0) (y .0 .3) .ensures (y .1) r (atExit T (y .0 .0) (y .0 .3) ws)
 
 -- a function f that is called meets its contract
 pub record Known {M : Type 1} (𝓤 : URA M) (H : Heap 𝓤) (A : Atoms 𝓤) (C : Calls 𝓤 H) (f : Name) (T : Ended) (c : Clauses 𝓤 T) : Type 1 where
-  pub met : Triple 𝓤 (C f) (tripleOf 𝓤 H A (T .signature) (closing 𝓤 H A T c))
+  pub met : Triple 𝓤 (C f) (Asked 𝓤 H A T c)
 
 module _ {M : Type 1} {𝓤 : URA M} {H : Heap 𝓤} {A : Atoms 𝓤} {K : Type 0} {W : Given 𝓤 H A} {Γ : List (Item 𝓤)} where
   -- what a callee asks: the tokens are the first k entries, what its parameters own the next l, and R is had for nothing
@@ -76,24 +102,25 @@ module _ {M : Type 1} {𝓤 : URA M} {H : Heap 𝓤} {A : Atoms 𝓤} {K : Type 
             (via 𝓤 (⋆ 𝓤 H A (raw (sep 𝓤 (sep 𝓤 P Q) R) ∷ back l (back k Γ))) (push 𝓤 H A (raw (sep 𝓤 (sep 𝓤 P Q) R)) (back l (back k Γ))) (s .prf)))));
       })
 
-  -- the call: x and g are what the callee's triple binds outside, and Said is what it promises of the result r and of the last values ws
+  -- the call: y is what the callee's triple binds outside, and Said is what it promises of the result r and of the last values ws
   module _ {E : Env 𝓤 H} {C : Calls 𝓤 H} {Λ : Loops 𝓤 H} {q : Post 𝓤 H} {f : Name} {xs : List Operand} {d : Place} {b : Body} where
     pub asks : K → FmC 𝓤 H (W .laws) C → {T : Ended} {c : Clauses 𝓤 T} → Known 𝓤 H A C f T c
-        → (y : tripleOf 𝓤 H A (T .signature) (closing 𝓤 H A T c) .Ghost) (Said : Res (T .signature) (y .0 .0) → Lasts T (y .0 .0) (y .0 .3) → Type 0)
-        → ((r : Res (T .signature) (y .0 .0)) (ws : Lasts T (y .0 .0) (y .0 .3)) → ent 𝓤 (c (y .0 .0) (y .0 .3) .ensures (y .1) r (atExit T (y .0 .0) (y .0 .3) ws)) (fact 𝓤 (Said r ws)))
-        → Opds K W (raw (tripleOf 𝓤 H A (T .signature) (closing 𝓤 H A T c) .pre y) ∷ Γ) E xs (tripleOf 𝓤 H A (T .signature) (closing 𝓤 H A T c) .args y)
-        → ((w : Val) (r : Res (T .signature) (y .0 .0)) (ws : Lasts T (y .0 .0) (y .0 .3)) → Said r ws → Is (typeAt (T .signature .result) (y .0 .0)) r (w ∷ [])
-        → Seq K W (tokens (T .signature .lifetimes) (y .0 .0) (y .0 .1) ++ ‵ (typeAt (T .signature .result) (y .0 .0) .own r (w ∷ [])) ∷ ‵ (lasts T (y .0 .0) (y .0 .3) ws) ∷ Γ) (lands C Λ E d w b q))
-        → Seq K W (raw (tripleOf 𝓤 H A (T .signature) (closing 𝓤 H A T c) .pre y) ∷ Γ) (runs C Λ E (seq (call f xs d) b) q)
-    asks t fm {T} {c} known y Said says os k = calls-at t fm (tripleOf 𝓤 H A (T .signature) (closing 𝓤 H A T c)) (known .met) y os (λ w.
-        use1 W (later (some (λ (r : Res (T .signature) (y .0 .0)). (raw (alive 𝓤 H A (T .signature) (y .0 .0) (y .0 .1)) ⊛ ‵ (typeAt (T .signature .result) (y .0 .0) .own r (w ∷ [])))
-        ⊛ some (λ (ws : Lasts T (y .0 .0) (y .0 .3)). ‵ (lasts T (y .0 .0) (y .0 .3) ws) ⊛ raw (c (y .0 .0) (y .0 .3) .ensures (y .1) r (atExit T (y .0 .0) (y .0 .3) ws)))))) (id⊢ 𝓤 _) $
-        await t tt $ pick t (λ r. split t $ move t (1 ∷ []) $ pick t (λ ws. split t $ move t (1 ∷ []) $ use1 W (raw (fact 𝓤 (Said r ws))) (says r ws) $ heard t (Said r ws) (λ h.
+        → (y : Asked 𝓤 H A T c .Ghost) (Said : Res (T .signature) (y .0 .0) → Lasts T (y .0 .0) (y .0 .3) → Type 0)
+        → ((r : Res (T .signature) (y .0 .0)) (ws : Lasts T (y .0 .0) (y .0 .3)) → ent 𝓤 (Promised 𝓤 H A T c y r ws) (fact 𝓤 (Said r ws)))
+        → Opds K W (raw (Asked 𝓤 H A T c .pre y) ∷ Γ) E xs (Asked 𝓤 H A T c .args y)
+        → ((w : Val) (r : Res (T .signature) (y .0 .0)) (ws : Lasts T (y .0 .0) (y .0 .3)) → Said r ws → Is (Result T (y .0 .0)) r (w ∷ [])
+        → Seq K W (tokens (lives T) (y .0 .0) (y .0 .1) ++ ‵ (Result T (y .0 .0) .own r (w ∷ [])) ∷ ‵ (lasts T (y .0 .0) (y .0 .3) ws) ∷ Γ) (lands C Λ E d w b q))
+        → Seq K W (raw (Asked 𝓤 H A T c .pre y) ∷ Γ) (runs C Λ E (seq (call f xs d) b) q)
+    asks t fm {T} {c} known y Said says os k =
+        let R : RattleType = Result T (y .0 .0) in
+        let live : Item 𝓤 = raw (alive 𝓤 H A (T .signature) (y .0 .0) (y .0 .1)) in
+        let Ended : Res (T .signature) (y .0 .0) → Item 𝓤 = λ r. some (λ (ws : Lasts T (y .0 .0) (y .0 .3)). ‵ (lasts T (y .0 .0) (y .0 .3) ws) ⊛ raw (Promised 𝓤 H A T c y r ws)) in
+        calls-at t fm (Asked 𝓤 H A T c) (known .met) y os (λ w.
+        use1 W (later (some (λ (r : Res (T .signature) (y .0 .0)). (live ⊛ ‵ (R .own r (w ∷ []))) ⊛ Ended r))) (id⊢ 𝓤 _) $ await t tt $
+        pick t (λ r. split t $ move t (1 ∷ []) $ pick t (λ ws. split t $ move t (1 ∷ []) $ use1 W (raw (fact 𝓤 (Said r ws))) (says r ws) $ heard t (Said r ws) (λ h.
         -- [the last values; the tokens and the result]
-        move t (1 ∷ []) $ split t $ move t (1 ∷ []) $
-        peeks t (typeAt (T .signature .result) (y .0 .0)) (Is (typeAt (T .signature .result) (y .0 .0))) (shows 𝓤 H A (typeAt (T .signature .result) (y .0 .0))) r (w ∷ []) (λ is. move t (1 ∷ []) $
-        cut (raw (alive 𝓤 H A (T .signature) (y .0 .0) (y .0 .1)) ∷ []) (tokens (T .signature .lifetimes) (y .0 .0) (y .0 .1)) _ (each-token 𝓤 H A (T .signature .lifetimes) (y .0 .0) (y .0 .1)) $
-        k w r ws h is)))))
+        move t (1 ∷ []) $ split t $ move t (1 ∷ []) $ peeks t R (Is R) (shows 𝓤 H A R) r (w ∷ []) (λ is. move t (1 ∷ []) $
+        cut (live ∷ []) (tokens (lives T) (y .0 .0) (y .0 .1)) _ (each-token 𝓤 H A (lives T) (y .0 .0) (y .0 .1)) $ k w r ws h is)))))
 
 -- the parameters of which nothing is had at the end, since nothing is said of them there
 abbrev none-stay : {n : ℕ} (ss : List (Slot n)) (ks : Kepts ss) → Stays ss ks
@@ -116,43 +143,50 @@ module _ {M : Type 1} (𝓤 : URA M) (H : Heap 𝓤) (A : Atoms 𝓤) (W : Given
     none-had : (κs : Lfts n) (ss : List (Slot n)) (ks : Kepts ss) (a : Denots (typesAt ss κs)) (ws : Fins κs ss ks a) (vss : Valss (typesAt ss κs))
         → ent 𝓤 (emp 𝓤) (sem 𝓤 H A (hasOf κs ss ks (none-stay ss ks) a ws vss))
     none-had κs [] ks a ws vss = id⊢ 𝓤 (emp 𝓤)
-    none-had κs (s ∷ ss) ks a ws vss = via 𝓤 (sep 𝓤 (emp 𝓤) (emp 𝓤)) (emp∗ 𝓤 (emp 𝓤)) (monoR 𝓤 (emp 𝓤) (none-had κs ss (ks .1) (a .1) (ws .1) (vss .1)))
+    none-had κs (s ∷ ss) ks a ws vss =
+        via 𝓤 (sep 𝓤 (emp 𝓤) (emp 𝓤)) (emp∗ 𝓤 (emp 𝓤)) (monoR 𝓤 (emp 𝓤) (none-had κs ss (ks .1) (a .1) (ws .1) (vss .1)))
 
-  pub dropped-go : (T : Ended) → Silents (T .signature .lifetimes) (T .signature .params) (T .kept) → AllGo 𝓤 H A W (T .signature .lifetimes) (T .signature .params) (T .kept) (dropped T)
-  dropped-go T = none-go (T .signature .lifetimes) (T .signature .params) (T .kept)
+  pub dropped-go : (T : Ended) → Silents (lives T) (T .signature .params) (T .kept) → AllGo 𝓤 H A W (lives T) (T .signature .params) (T .kept) (dropped T)
+  dropped-go T = none-go (lives T) (T .signature .params) (T .kept)
 
 -- a walk ends with the tokens, what is had of the parameters (L gives it) and the result; what is promised is a fact
-module _ {M : Type 1} (𝓤 : URA M) (H : Heap 𝓤) (A : Atoms 𝓤) (W : Given 𝓤 H A) (T : Ended) (hs : Stays (T .signature .params) (T .kept)) (c : Clauses 𝓤 T) where
-  pub ends : (y : walkOf 𝓤 H A T hs c .Ghost) (v : Val) (r : Res (T .signature) (y .0 .0)) (ws : Lasts T (y .0 .0) (y .0 .3)) → Fit T hs (y .0 .0) (y .0 .3) ws
-      → ent 𝓤 (emp 𝓤) (c (y .0 .0) (y .0 .3) .ensures (y .1) r (atExit T (y .0 .0) (y .0 .3) ws))
-      → (L : Fml) → ent 𝓤 (sem 𝓤 H A L) (sem 𝓤 H A (hasOf (y .0 .0) (T .signature .params) (T .kept) hs (y .0 .3) ws (y .0 .4)))
-      → ent 𝓤 (⋆ 𝓤 H A (raw (alive 𝓤 H A (T .signature) (y .0 .0) (y .0 .1)) ∷ ‵ L ∷ ‵ (typeAt (T .signature .result) (y .0 .0) .own r (v ∷ [])) ∷ [])) (walkOf 𝓤 H A T hs c .post y v)
-  ends y v r ws fits said L has =
-      let P : SProp 𝓤 = alive 𝓤 H A (T .signature) (y .0 .0) (y .0 .1) in
-      let Q : SProp 𝓤 = sem 𝓤 H A (hasOf (y .0 .0) (T .signature .params) (T .kept) hs (y .0 .3) ws (y .0 .4)) in
-      let R : SProp 𝓤 = sem 𝓤 H A (typeAt (T .signature .result) (y .0 .0) .own r (v ∷ [])) in
-      via 𝓤 (sep 𝓤 P (sep 𝓤 Q R)) (monoR 𝓤 P (monoL 𝓤 R has))
-      (via 𝓤 (Ending 𝓤 H A T hs c y v r ws) (with-nothing 𝓤 H A (sep 𝓤 P (sep 𝓤 Q R)) _ said) (ends-at 𝓤 H A T hs c W y v r ws fits))
+module _ {M : Type 1} (𝓤 : URA M) (H : Heap 𝓤) (A : Atoms 𝓤) (W : Given 𝓤 H A) (T : Ended) where
+  module _ (hs : Stays (T .signature .params) (T .kept)) (c : Clauses 𝓤 T) (y : walkOf 𝓤 H A T hs c .Ghost) (v : Val) (r : Res (T .signature) (y .0 .0)) where
+    abbrev live : SProp 𝓤
+    live = alive 𝓤 H A (T .signature) (y .0 .0) (y .0 .1)
 
--- where all parameters are dropped
-module _ {M : Type 1} (𝓤 : URA M) (H : Heap 𝓤) (A : Atoms 𝓤) (W : Given 𝓤 H A) (T : Ended) (c : Clauses 𝓤 T) where
-  pub ends-dropped : (y : walkOf 𝓤 H A T (dropped T) c .Ghost) (v : Val) (r : Res (T .signature) (y .0 .0)) (ws : Lasts T (y .0 .0) (y .0 .3)) → Fit T (dropped T) (y .0 .0) (y .0 .3) ws
-      → ent 𝓤 (emp 𝓤) (c (y .0 .0) (y .0 .3) .ensures (y .1) r (atExit T (y .0 .0) (y .0 .3) ws))
-      → ent 𝓤 (⋆ 𝓤 H A (raw (alive 𝓤 H A (T .signature) (y .0 .0) (y .0 .1)) ∷ ‵ (typeAt (T .signature .result) (y .0 .0) .own r (v ∷ [])) ∷ [])) (walkOf 𝓤 H A T (dropped T) c .post y v)
-  ends-dropped y v r ws fits said =
-      qed W (raw (alive 𝓤 H A (T .signature) (y .0 .0) (y .0 .1)) ∷ ‵ (typeAt (T .signature .result) (y .0 .0) .own r (v ∷ [])) ∷ []) ∵ nothing ! $ move ! (1 ∷ 0 ∷ []) $
-      by ! (ends 𝓤 H A W T (dropped T) c y v r ws fits said ftrue (none-had 𝓤 H A W (T .signature .lifetimes) (y .0 .0) (T .signature .params) (T .kept) (y .0 .3) ws (y .0 .4)))
+    abbrev reply : Fml
+    reply = Result T (y .0 .0) .own r (v ∷ [])
 
--- a function meets its contract where a walk of it holds, at the machine values that its parameters spell
-module _ {M : Type 1} (𝓤 : URA M) (H : Heap 𝓤) (A : Atoms 𝓤) (W : Given 𝓤 H A) (T : Ended) (hs : Stays (T .signature .params) (T .kept)) (c : Clauses 𝓤 T) (fn : Fn) where
-  abbrev pub Walk : Calls 𝓤 H → Loops 𝓤 H → walkOf 𝓤 H A T hs c .Ghost → Type 1
-  Walk C Λ y = ent 𝓤 (onEntry 𝓤 H A (T .signature) (y .0 .0) (y .0 .1) (y .0 .3) (y .0 .4)) (WpFn 𝓤 H C Λ fn (walkOf 𝓤 H A T hs c .args y) (walkOf 𝓤 H A T hs c .post y))
+    abbrev Had : Lasts T (y .0 .0) (y .0 .3) → SProp 𝓤
+    Had ws = sem 𝓤 H A (hasOf (y .0 .0) (T .signature .params) (T .kept) hs (y .0 .3) ws (y .0 .4))
 
-  pub met-by : (𝓣 : Tables 𝓤 H) → AllGo 𝓤 H A W (T .signature .lifetimes) (T .signature .params) (T .kept) hs
-      → (sp : (κs : Lfts (T .signature .lifetimes)) → Spells (typesAt (T .signature .params) κs)) → ((κs : Lfts (T .signature .lifetimes)) → Tellss (typesAt (T .signature .params) κs) (Ises (typesAt (T .signature .params) κs)) (sp κs))
-      → ((κs : Lfts (T .signature .lifetimes)) (qs : Shares (T .signature .lifetimes)) (bounds : AllOutlive (T .signature .lifetimes) (T .signature .outlives) κs) (a : Args (T .signature) κs) (g : c κs a .ghost)
-      → Are (typesAt (T .signature .params) κs) (Ises (typesAt (T .signature .params) κs)) a (valss (typesAt (T .signature .params) κs) (sp κs) a)
-      → ent 𝓤 (sep 𝓤 (onEntry 𝓤 H A (T .signature) κs qs a (valss (typesAt (T .signature .params) κs) (sp κs) a)) (c κs a .requires g))
-      (WpFn 𝓤 H (𝓣 .C) (𝓣 .Λ) fn (flat (typesAt (T .signature .params) κs) (valss (typesAt (T .signature .params) κs) (sp κs) a)) (walkOf 𝓤 H A T hs c .post ((κs, qs, bounds, a, valss (typesAt (T .signature .params) κs) (sp κs) a), g))))
-      → Meets 𝓤 H A (T .signature) (WpFn 𝓤 H (𝓣 .C) (𝓣 .Λ) fn) (closing 𝓤 H A T c)
-  met-by 𝓣 gs sp tl k = walk-meets 𝓤 H A T hs W gs c (WpFn 𝓤 H (𝓣 .C) (𝓣 .Λ) fn) (WpFn-mono 𝓤 H (W .laws) 𝓣 fn) (walked 𝓤 H A T hs c (WpFn 𝓤 H (𝓣 .C) (𝓣 .Λ) fn) sp tl k)
+    pub ends : (ws : Lasts T (y .0 .0) (y .0 .3)) → Fit T hs (y .0 .0) (y .0 .3) ws → ent 𝓤 (emp 𝓤) (Promised 𝓤 H A T c y r ws)
+        → (L : Fml) → ent 𝓤 (sem 𝓤 H A L) (Had ws) → ent 𝓤 (⋆ 𝓤 H A (raw live ∷ ‵ L ∷ ‵ reply ∷ [])) (walkOf 𝓤 H A T hs c .post y v)
+    ends ws fits said L has =
+        via 𝓤 (sep 𝓤 live (sep 𝓤 (Had ws) (sem 𝓤 H A reply))) (monoR 𝓤 live (monoL 𝓤 (sem 𝓤 H A reply) has))
+        (via 𝓤 (Ending 𝓤 H A T hs c y v r ws) (with-nothing 𝓤 H A (sep 𝓤 live (sep 𝓤 (Had ws) (sem 𝓤 H A reply))) (Promised 𝓤 H A T c y r ws) said) (ends-at 𝓤 H A T hs c W y v r ws fits))
+
+  -- where all parameters are dropped
+  module _ (c : Clauses 𝓤 T) (y : walkOf 𝓤 H A T (dropped T) c .Ghost) (v : Val) (r : Res (T .signature) (y .0 .0)) where
+    pub ends-dropped : (ws : Lasts T (y .0 .0) (y .0 .3)) → Fit T (dropped T) (y .0 .0) (y .0 .3) ws → ent 𝓤 (emp 𝓤) (Promised 𝓤 H A T c y r ws)
+        → ent 𝓤 (⋆ 𝓤 H A (raw (live (dropped T) c y v r) ∷ ‵ (reply (dropped T) c y v r) ∷ [])) (walkOf 𝓤 H A T (dropped T) c .post y v)
+    ends-dropped ws fits said =
+        qed W (raw (live (dropped T) c y v r) ∷ ‵ (reply (dropped T) c y v r) ∷ []) ∵ nothing ! $ move ! (1 ∷ 0 ∷ []) $
+        by ! (ends (dropped T) c y v r ws fits said ftrue (none-had 𝓤 H A W (lives T) (y .0 .0) (T .signature .params) (T .kept) (y .0 .3) ws (y .0 .4)))
+
+  -- a function meets its contract where a walk of it holds, at the machine values that its parameters spell
+  module _ (hs : Stays (T .signature .params) (T .kept)) (c : Clauses 𝓤 T) (fn : Fn) where
+    abbrev pub Walk : Calls 𝓤 H → Loops 𝓤 H → walkOf 𝓤 H A T hs c .Ghost → Type 1
+    Walk C Λ y = ent 𝓤 (onEntry 𝓤 H A (T .signature) (y .0 .0) (y .0 .1) (y .0 .3) (y .0 .4)) (WpFn 𝓤 H C Λ fn (walkOf 𝓤 H A T hs c .args y) (walkOf 𝓤 H A T hs c .post y))
+
+    abbrev WalkHere : Tables 𝓤 H → walkOf 𝓤 H A T hs c .Ghost → Type 1
+    WalkHere 𝓣 y = ent 𝓤 (walkOf 𝓤 H A T hs c .pre y) (WpFn 𝓤 H (𝓣 .C) (𝓣 .Λ) fn (walkOf 𝓤 H A T hs c .args y) (walkOf 𝓤 H A T hs c .post y))
+
+    pub met-by : (𝓣 : Tables 𝓤 H) → AllGo 𝓤 H A W (lives T) (T .signature .params) (T .kept) hs
+        → (sp : (κs : Lfts (lives T)) → Spells (Types T κs)) → ((κs : Lfts (lives T)) → Tellss (Types T κs) (Ises (Types T κs)) (sp κs))
+        → ((κs : Lfts (lives T)) (qs : Shares (lives T)) (bounds : AllOutlive (lives T) (T .signature .outlives) κs) (a : Args (T .signature) κs) (g : c κs a .ghost)
+        → Are (Types T κs) (Ises (Types T κs)) a (valss (Types T κs) (sp κs) a) → WalkHere 𝓣 ((κs, qs, bounds, a, valss (Types T κs) (sp κs) a), g))
+        → Meets 𝓤 H A (T .signature) (WpFn 𝓤 H (𝓣 .C) (𝓣 .Λ) fn) (closing 𝓤 H A T c)
+    met-by 𝓣 gs sp tl k =
+        walk-meets 𝓤 H A T hs W gs c (WpFn 𝓤 H (𝓣 .C) (𝓣 .Λ) fn) (WpFn-mono 𝓤 H (W .laws) 𝓣 fn) (walked 𝓤 H A T hs c (WpFn 𝓤 H (𝓣 .C) (𝓣 .Λ) fn) sp tl k)

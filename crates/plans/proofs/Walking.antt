@@ -38,7 +38,7 @@ pub use denote.Triple.Call.{calls-at}
 pub use denote.Triple.Clauses.{Ended, Clauses, Lasts, atExit, lasts, closing}
 pub use denote.Triple.End.{Kepts, Fins}
 pub use denote.Triple.Spec.{Meets, tripleOf}
-pub use denote.Triple.Statement.{Triple}
+pub use denote.Triple.Statement.{Contract, Triple}
 pub use denote.Triple.Walked.{Stays, stay-dropped, Silent, AllGo, goes-dropped, hasOf, Fit, walkOf, Ending, ends-at, walked, walk-meets, gave-slice}
 pub use denote.Triple.Walked.{goes-gave-slice, needs, stay-slice, goes-slice}
 pub use denote.Plain.{uint-vals, uint-tells, uint-makes, uint-lawful, nothing-lawful}
