@@ -1,14 +1,14 @@
 -- How a walk by hand begins, calls a function that meets its contract, and ends: what the callee asks is brought from the front of the context,
 -- what it promises is learned, and what the caller must have at its end is put together.
 -- It says nothing of the crate, and can be copied as it stands. Assumes `Given`.
-use Rattle.plans.proofs.Walking.{ℕ, zero, suc, List, [], _∷_, _++_, URA, Name, Place, Operand, Body, seq, call, Fn, Val, SProp, ent, sep, emp, id⊢}
-use Rattle.plans.proofs.Walking.{via, comm∗, assoc′, mono∗, monoL, monoR, emp∗, Fml, ftrue, flft, Heap, Env, Calls, Loops, WpFn, Tables, Atoms, sem}
-use Rattle.plans.proofs.Walking.{Lfts, Shares, AllOutlive, toks, fact, Given, Item, ‵, raw, some, later, _⊛_, mean, ⋆, pop, push, ++⊢, Post, Goal}
-use Rattle.plans.proofs.Walking.{prop, runs, lands, Seq, Sq, Step, step, _$_, _∵_, !, qed, by, cut, move, use1, split, pick, await, Opds, FmC}
-use Rattle.plans.proofs.Walking.{WpFn-mono, RattleType, Denots, Valss, owns, Is, Ises, Are, Spells, Tellss, valss, shows, heard, peeks, nothing}
-use Rattle.plans.proofs.Walking.{Slot, Signature, typeAt, typesAt, Args, Vals, Res, alive, onEntry, calls-at, Ended, Clauses, Lasts, atExit, lasts}
-use Rattle.plans.proofs.Walking.{closing, Kepts, Fins, Meets, tripleOf, Contract, Triple, Stays, stay-dropped, Silent, AllGo, goes-dropped, hasOf, Fit, walkOf}
-use Rattle.plans.proofs.Walking.{Ending, ends-at, walked, walk-meets}
+use Rattle.plans.proofs.Walking.{ℕ, zero, suc, List, [], _∷_, _++_, URA, Operand, Body, seq, Name, Place, call, Fn, Val, Fml, ftrue, flft, WpFn, Heap}
+use Rattle.plans.proofs.Walking.{Env, Calls, Tables, Atoms, sem, Goal, Given, Item, ‵, Seq, Step, step, _$_, move, use1, Post, runs, lands, raw, some}
+use Rattle.plans.proofs.Walking.{later, _⊛_, mean, ⋆, pop, push, ++⊢, prop, Sq, _∵_, !, qed, by, cut, split, pick, await, Opds, RattleType, Denots}
+use Rattle.plans.proofs.Walking.{Valss, owns, T, SProp, ent, sep, emp, id⊢, via, comm∗, assoc′, mono∗, monoL, monoR, emp∗, Lfts, Shares, AllOutlive}
+use Rattle.plans.proofs.Walking.{toks, fact, Fun, WpFn-mono, fmOf, Is, Ises, Are, Spells, Tellss, valss, shows, heard, peeks, nothing, Slot, Signature}
+use Rattle.plans.proofs.Walking.{typeAt, typesAt, Args, Vals, Res, alive, onEntry, calls-at, Ended, Clauses, Lasts, atExit, lasts, closing, Kepts}
+use Rattle.plans.proofs.Walking.{Fins, Meets, tripleOf, Contract, Triple, Stays, stay-dropped, Silent, AllGo, goes-dropped, hasOf, Fit, walkOf, Ending}
+use Rattle.plans.proofs.Walking.{ends-at, walked, walk-meets}
 
 module _ {M : Type 1} {𝓤 : URA M} where
   abbrev front : ℕ → List (Item 𝓤) → List (Item 𝓤)
@@ -48,13 +48,15 @@ module _ {M : Type 1} (𝓤 : URA M) (H : Heap 𝓤) (A : Atoms 𝓤) where
   each-token zero κs qs = id⊢ 𝓤 (emp 𝓤)
   each-token (suc n) κs qs =
       let X : SProp 𝓤 = A .lft (κs .0) (qs .0) in
-      via 𝓤 (sep 𝓤 X (⋆ 𝓤 H A (tokens n (κs .1) (qs .1)))) (monoR 𝓤 X (each-token n (κs .1) (qs .1))) (push 𝓤 H A (‵ (flft (κs .0) (qs .0))) (tokens n (κs .1) (qs .1)))
+      let Δ : List (Item 𝓤) = tokens n (κs .1) (qs .1) in
+      via 𝓤 (sep 𝓤 X (⋆ 𝓤 H A Δ)) (monoR 𝓤 X (each-token n (κs .1) (qs .1))) (push 𝓤 H A (‵ (flft (κs .0) (qs .0))) Δ)
 
   each-owned : (Rs : List RattleType) (a : Denots Rs) (vss : Valss Rs) → ent 𝓤 (sem 𝓤 H A (owns Rs a vss)) (⋆ 𝓤 H A (owned-by Rs a vss))
   each-owned [] a vss = id⊢ 𝓤 (emp 𝓤)
   each-owned (R ∷ Rs) a vss =
       let X : Fml = R .own (a .0) (vss .0) in
-      via 𝓤 (sep 𝓤 (sem 𝓤 H A X) (⋆ 𝓤 H A (owned-by Rs (a .1) (vss .1)))) (monoR 𝓤 (sem 𝓤 H A X) (each-owned Rs (a .1) (vss .1))) (push 𝓤 H A (‵ X) (owned-by Rs (a .1) (vss .1)))
+      let Θ : List (Item 𝓤) = owned-by Rs (a .1) (vss .1) in
+      via 𝓤 (sep 𝓤 (sem 𝓤 H A X) (⋆ 𝓤 H A Θ)) (monoR 𝓤 (sem 𝓤 H A X) (each-owned Rs (a .1) (vss .1))) (push 𝓤 H A (‵ X) Θ)
 
   -- a walk begins with all of these in the context
   pub begins : (W : Given 𝓤 H A) (S : Signature) (κs : Lfts (S .lifetimes)) (qs : Shares (S .lifetimes)) (a : Args S κs) (vss : Vals S κs) {P : SProp 𝓤}
@@ -75,6 +77,14 @@ module _ (T : Ended) where
 
   abbrev Result : Lfts lives → RattleType
   Result = typeAt (T .signature .result)
+
+  -- the machine values of the arguments, as sp spells them, and that they are those
+  module _ (sp : (κs : Lfts lives) → Spells (Types κs)) (κs : Lfts lives) (a : Args (T .signature) κs) where
+    abbrev pub spelling : Vals (T .signature) κs
+    spelling = valss (Types κs) (sp κs) a
+
+    abbrev pub Spelled : Type 0
+    Spelled = Are (Types κs) (Ises (Types κs)) a spelling
 
 module _ {M : Type 1} (𝓤 : URA M) (H : Heap 𝓤) (A : Atoms 𝓤) (T : Ended) (c : Clauses 𝓤 T) where
   abbrev Asked : Contract 𝓤
@@ -103,21 +113,23 @@ module _ {M : Type 1} {𝓤 : URA M} {H : Heap 𝓤} {A : Atoms 𝓤} {K : Type 
       })
 
   -- the call: y is what the callee's triple binds outside, and Said is what it promises of the result r and of the last values ws
-  module _ {E : Env 𝓤 H} {C : Calls 𝓤 H} {Λ : Loops 𝓤 H} {q : Post 𝓤 H} {f : Name} {xs : List Operand} {d : Place} {b : Body} where
-    pub asks : K → FmC 𝓤 H (W .laws) C → {T : Ended} {c : Clauses 𝓤 T} → Known 𝓤 H A C f T c
+  module _ {E : Env 𝓤 H} {q : Post 𝓤 H} {f : Name} {xs : List Operand} {d : Place} {b : Body} where
+    pub asks : K → (𝓣 : Tables 𝓤 H) {T : Ended} {c : Clauses 𝓤 T} → Known 𝓤 H A (𝓣 .C) f T c
         → (y : Asked 𝓤 H A T c .Ghost) (Said : Res (T .signature) (y .0 .0) → Lasts T (y .0 .0) (y .0 .3) → Type 0)
         → ((r : Res (T .signature) (y .0 .0)) (ws : Lasts T (y .0 .0) (y .0 .3)) → ent 𝓤 (Promised 𝓤 H A T c y r ws) (fact 𝓤 (Said r ws)))
         → Opds K W (raw (Asked 𝓤 H A T c .pre y) ∷ Γ) E xs (Asked 𝓤 H A T c .args y)
         → ((w : Val) (r : Res (T .signature) (y .0 .0)) (ws : Lasts T (y .0 .0) (y .0 .3)) → Said r ws → Is (Result T (y .0 .0)) r (w ∷ [])
-        → Seq K W (tokens (lives T) (y .0 .0) (y .0 .1) ++ ‵ (Result T (y .0 .0) .own r (w ∷ [])) ∷ ‵ (lasts T (y .0 .0) (y .0 .3) ws) ∷ Γ) (lands C Λ E d w b q))
-        → Seq K W (raw (Asked 𝓤 H A T c .pre y) ∷ Γ) (runs C Λ E (seq (call f xs d) b) q)
-    asks t fm {T} {c} known y Said says os k =
+        → Seq K W (tokens (lives T) (y .0 .0) (y .0 .1) ++ ‵ (Result T (y .0 .0) .own r (w ∷ [])) ∷ ‵ (lasts T (y .0 .0) (y .0 .3) ws) ∷ Γ)
+        (lands (𝓣 .C) (𝓣 .Λ) E d w b q))
+        → Seq K W (raw (Asked 𝓤 H A T c .pre y) ∷ Γ) (runs (𝓣 .C) (𝓣 .Λ) E (seq (call f xs d) b) q)
+    asks t 𝓣 {T} {c} known y Said says os k =
         let R : RattleType = Result T (y .0 .0) in
         let live : Item 𝓤 = raw (alive 𝓤 H A (T .signature) (y .0 .0) (y .0 .1)) in
-        let Ended : Res (T .signature) (y .0 .0) → Item 𝓤 = λ r. some (λ (ws : Lasts T (y .0 .0) (y .0 .3)). ‵ (lasts T (y .0 .0) (y .0 .3) ws) ⊛ raw (Promised 𝓤 H A T c y r ws)) in
-        calls-at t fm (Asked 𝓤 H A T c) (known .met) y os (λ w.
-        use1 W (later (some (λ (r : Res (T .signature) (y .0 .0)). (live ⊛ ‵ (R .own r (w ∷ []))) ⊛ Ended r))) (id⊢ 𝓤 _) $ await t tt $
-        pick t (λ r. split t $ move t (1 ∷ []) $ pick t (λ ws. split t $ move t (1 ∷ []) $ use1 W (raw (fact 𝓤 (Said r ws))) (says r ws) $ heard t (Said r ws) (λ h.
+        let Back : Res (T .signature) (y .0 .0) → Lasts T (y .0 .0) (y .0 .3) → Item 𝓤 = λ r ws. ‵ (lasts T (y .0 .0) (y .0 .3) ws) ⊛ raw (Promised 𝓤 H A T c y r ws) in
+        calls-at t (fmOf 𝓤 H (W .laws) 𝓣) (Asked 𝓤 H A T c) (known .met) y os (λ w.
+        use1 W (later (some (λ (r : Res (T .signature) (y .0 .0)). (live ⊛ ‵ (R .own r (w ∷ []))) ⊛ some (Back r)))) (id⊢ 𝓤 _) $ await t tt $
+        pick t (λ r. split t $ move t (1 ∷ []) $ pick t (λ ws. split t $ move t (1 ∷ []) $
+        use1 W (raw (fact 𝓤 (Said r ws))) (says r ws) $ heard t (Said r ws) (λ h.
         -- [the last values; the tokens and the result]
         move t (1 ∷ []) $ split t $ move t (1 ∷ []) $ peeks t R (Is R) (shows 𝓤 H A R) r (w ∷ []) (λ is. move t (1 ∷ []) $
         cut (live ∷ []) (tokens (lives T) (y .0 .0) (y .0 .1)) _ (each-token 𝓤 H A (lives T) (y .0 .0) (y .0 .1)) $ k w r ws h is)))))
@@ -164,8 +176,9 @@ module _ {M : Type 1} (𝓤 : URA M) (H : Heap 𝓤) (A : Atoms 𝓤) (W : Given
     pub ends : (ws : Lasts T (y .0 .0) (y .0 .3)) → Fit T hs (y .0 .0) (y .0 .3) ws → ent 𝓤 (emp 𝓤) (Promised 𝓤 H A T c y r ws)
         → (L : Fml) → ent 𝓤 (sem 𝓤 H A L) (Had ws) → ent 𝓤 (⋆ 𝓤 H A (raw live ∷ ‵ L ∷ ‵ reply ∷ [])) (walkOf 𝓤 H A T hs c .post y v)
     ends ws fits said L has =
-        via 𝓤 (sep 𝓤 live (sep 𝓤 (Had ws) (sem 𝓤 H A reply))) (monoR 𝓤 live (monoL 𝓤 (sem 𝓤 H A reply) has))
-        (via 𝓤 (Ending 𝓤 H A T hs c y v r ws) (with-nothing 𝓤 H A (sep 𝓤 live (sep 𝓤 (Had ws) (sem 𝓤 H A reply))) (Promised 𝓤 H A T c y r ws) said) (ends-at 𝓤 H A T hs c W y v r ws fits))
+        let P : SProp 𝓤 = sep 𝓤 live (sep 𝓤 (Had ws) (sem 𝓤 H A reply)) in
+        via 𝓤 P (monoR 𝓤 live (monoL 𝓤 (sem 𝓤 H A reply) has))
+        (via 𝓤 (Ending 𝓤 H A T hs c y v r ws) (with-nothing 𝓤 H A P (Promised 𝓤 H A T c y r ws) said) (ends-at 𝓤 H A T hs c W y v r ws fits))
 
   -- where all parameters are dropped
   module _ (c : Clauses 𝓤 T) (y : walkOf 𝓤 H A T (dropped T) c .Ghost) (v : Val) (r : Res (T .signature) (y .0 .0)) where
@@ -177,16 +190,17 @@ module _ {M : Type 1} (𝓤 : URA M) (H : Heap 𝓤) (A : Atoms 𝓤) (W : Given
 
   -- a function meets its contract where a walk of it holds, at the machine values that its parameters spell
   module _ (hs : Stays (T .signature .params) (T .kept)) (c : Clauses 𝓤 T) (fn : Fn) where
-    abbrev pub Walk : Calls 𝓤 H → Loops 𝓤 H → walkOf 𝓤 H A T hs c .Ghost → Type 1
-    Walk C Λ y = ent 𝓤 (onEntry 𝓤 H A (T .signature) (y .0 .0) (y .0 .1) (y .0 .3) (y .0 .4)) (WpFn 𝓤 H C Λ fn (walkOf 𝓤 H A T hs c .args y) (walkOf 𝓤 H A T hs c .post y))
+    abbrev Runs : Tables 𝓤 H → walkOf 𝓤 H A T hs c .Ghost → SProp 𝓤
+    Runs 𝓣 y = WpFn 𝓤 H (𝓣 .C) (𝓣 .Λ) fn (walkOf 𝓤 H A T hs c .args y) (walkOf 𝓤 H A T hs c .post y)
 
-    abbrev WalkHere : Tables 𝓤 H → walkOf 𝓤 H A T hs c .Ghost → Type 1
-    WalkHere 𝓣 y = ent 𝓤 (walkOf 𝓤 H A T hs c .pre y) (WpFn 𝓤 H (𝓣 .C) (𝓣 .Λ) fn (walkOf 𝓤 H A T hs c .args y) (walkOf 𝓤 H A T hs c .post y))
+    abbrev pub Walk : Tables 𝓤 H → walkOf 𝓤 H A T hs c .Ghost → Type 1
+    Walk 𝓣 y = ent 𝓤 (onEntry 𝓤 H A (T .signature) (y .0 .0) (y .0 .1) (y .0 .3) (y .0 .4)) (Runs 𝓣 y)
 
     pub met-by : (𝓣 : Tables 𝓤 H) → AllGo 𝓤 H A W (lives T) (T .signature .params) (T .kept) hs
         → (sp : (κs : Lfts (lives T)) → Spells (Types T κs)) → ((κs : Lfts (lives T)) → Tellss (Types T κs) (Ises (Types T κs)) (sp κs))
-        → ((κs : Lfts (lives T)) (qs : Shares (lives T)) (bounds : AllOutlive (lives T) (T .signature .outlives) κs) (a : Args (T .signature) κs) (g : c κs a .ghost)
-        → Are (Types T κs) (Ises (Types T κs)) a (valss (Types T κs) (sp κs) a) → WalkHere 𝓣 ((κs, qs, bounds, a, valss (Types T κs) (sp κs) a), g))
+        → ((κs : Lfts (lives T)) (qs : Shares (lives T)) (ok : AllOutlive (lives T) (T .signature .outlives) κs) (a : Args (T .signature) κs) (g : c κs a .ghost)
+        → Spelled T sp κs a → ent 𝓤 (walkOf 𝓤 H A T hs c .pre ((κs, qs, ok, a, spelling T sp κs a), g)) (Runs 𝓣 ((κs, qs, ok, a, spelling T sp κs a), g)))
         → Meets 𝓤 H A (T .signature) (WpFn 𝓤 H (𝓣 .C) (𝓣 .Λ) fn) (closing 𝓤 H A T c)
     met-by 𝓣 gs sp tl k =
-        walk-meets 𝓤 H A T hs W gs c (WpFn 𝓤 H (𝓣 .C) (𝓣 .Λ) fn) (WpFn-mono 𝓤 H (W .laws) 𝓣 fn) (walked 𝓤 H A T hs c (WpFn 𝓤 H (𝓣 .C) (𝓣 .Λ) fn) sp tl k)
+        let run : Fun 𝓤 = WpFn 𝓤 H (𝓣 .C) (𝓣 .Λ) fn in
+        walk-meets 𝓤 H A T hs W gs c run (WpFn-mono 𝓤 H (W .laws) 𝓣 fn) (walked 𝓤 H A T hs c run sp tl k)

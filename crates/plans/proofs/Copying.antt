@@ -1,15 +1,15 @@
 -- What the loops share that copy entries, one in each turn: an entry is taken out of its row, put back, or written over with the next one that is copied. Assumes `Given`.
-use Rattle.plans.proofs.Walking.{refl, ℕ, _+_, _<_, _≤_, arith, List, [], _∷_, T, length, getD, URA, fullShare, Body, Val, hasTy, WT, SProp, Share}
-use Rattle.plans.proofs.Walking.{Fml, Heap, Out, Env, Calls, Loops, Wp, afterSeq, afterBlock, afterTurn, atReturn, Atoms, Given, Goal, Item, ‵, Seq}
-use Rattle.plans.proofs.Walking.{Step, step, _$_, move, drop, rewrite, Below, Is, shows, shares, mem, cellAt, row, others, offset, elem-out, elem-back}
-use Rattle.plans.proofs.Walking.{elem-put, owned}
+use Rattle.plans.proofs.Walking.{refl, ℕ, _+_, _<_, _≤_, List, [], _∷_, length, getD, URA, fullShare, Body, Val, hasTy, WT, Share, Fml, afterTurn}
+use Rattle.plans.proofs.Walking.{Heap, Env, Calls, Loops, Out, Wp, afterSeq, afterBlock, atReturn, Atoms, Goal, Given, Item, ‵, Seq, Step, step, _$_}
+use Rattle.plans.proofs.Walking.{move, drop, rewrite, Post, Below, cellAt, shares, mem, row, others, offset, elem-out, elem-back, elem-put, T, SProp}
+use Rattle.plans.proofs.Walking.{Is, shows, owned, arith}
+use Rattle.plans.proofs.Lending.{Row}
+use Rattle.plans.proofs.Over.{over-length, over-next}
+use Rattle.plans.proofs.Upto.{Upto, Nearer}
 use denote.Struct.Laws as LL
 use Rattle.terms.specs.declared.Entry.{Entry}
 use Rattle.terms.specs.Plans.{notPlaced}
 use Rattle.plans.specs.Copies.{over}
-use Rattle.plans.proofs.Lending.{Row}
-use Rattle.plans.proofs.Over.{over-length, over-next}
-use Rattle.plans.proofs.Upto.{Upto, Nearer}
 use Rattle.terms.proofs.Entry as T
 use Rattle.terms.proofs.Entry.Laws as T′
 

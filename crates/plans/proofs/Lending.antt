@@ -1,10 +1,11 @@
--- What a caller lends to the plan check and to the list plan, in a walk by hand: what each row owns, and that what is only read is had twice,
--- one copy for the call and one for the exit. It serves `check_plan` and `list_plan` and those of api that pass the rows on. Assumes `Given`.
-use Rattle.plans.proofs.Walking.{refl, List, [], _∷_, URA, T, named, w32, tyArray, Val, hasTy, WT, ent, Fml, ftrue, fsep, Heap, Atoms, sem, Given, ‵}
-use Rattle.plans.proofs.Walking.{_$_, _∵_, !, qed, move, fjoin, done, Lfts, RattleType, Denots, Valss, Is, Ises, Are, Makes, Tells, Spells, Tellss}
-use Rattle.plans.proofs.Walking.{valss, uint-vals, uint-tells, u16, u32, Array, array-vals, array-tells, array-makes, array-lawful, ShrSlice}
-use Rattle.plans.proofs.Walking.{slice-vals, shr-slice-tells, mut-slice-tells, Slot, plain, shrSliceOf, mutSliceOf, typesAt, Stays, AllGo}
-use Rattle.plans.proofs.Walking.{stay-dropped, gave-slice, goes-dropped, goes-gave-slice, yes, nothing}
+-- What a caller lends to the plan check and to the list plan, in a walk by hand:
+-- how the parameters are spelled as machine values, and what is had of them at the end.
+-- It serves `check_plan` and `list_plan` and those of api that pass the rows on. Assumes `Given`.
+use Rattle.plans.proofs.Walking.{refl, ℕ, List, [], _∷_, URA, tyArray, named, w32, w64, Val, hasTy, WT, fsep, Fml, ftrue, Heap, Atoms, sem, Goal}
+use Rattle.plans.proofs.Walking.{Given, Item, ‵, Step, _$_, move, fjoin, _∵_, !, qed, done, RattleType, Array, array-vals, array-tells, array-makes}
+use Rattle.plans.proofs.Walking.{array-lawful, T, ent, Lfts, Is, Ises, Spells, Tellss, Tells, nothing, owned, Slot, typesAt, plain, shrSliceOf}
+use Rattle.plans.proofs.Walking.{mutSliceOf, Stays, stay-dropped, AllGo, goes-dropped, gave-slice, goes-gave-slice, uint-vals, uint-tells, uint-makes}
+use Rattle.plans.proofs.Walking.{u16, u32, usize, ShrSlice, slice-vals, shr-slice-tells, mut-slice-tells, yes}
 use denote.Struct.Laws as LL
 use Rattle.terms.specs.declared.Entry.{Entry}
 use Rattle.terms.proofs.Entry as entry
@@ -25,10 +26,16 @@ table-vals = array-vals (LL.vals entry.the-type entryLaws.the-laws)
 pub table-tells : Tells Table (Is Table) table-vals
 table-tells = array-tells Row (LL.vals entry.the-type entryLaws.the-laws) (LL.tells entry.the-type entryLaws.the-laws) 256
 
-pub table-makes : {M : Type 1} (𝓤 : URA M) (H : Heap 𝓤) (A : Atoms 𝓤) → Given 𝓤 H A → Makes 𝓤 H A Table (Is Table)
-table-makes 𝓤 H A W = array-makes 𝓤 H A W Row (LL.makes entry.the-type entryLaws.the-plain 𝓤 H A) 256
+-- what a word and a table own is had for nothing
+module _ {M : Type 1} {𝓤 : URA M} {H : Heap 𝓤} {A : Atoms 𝓤} {K : Type 0} {W : Given 𝓤 H A} {Γ : List (Item 𝓤)} {G : Goal 𝓤 H} where
+  pub has-word : K → (n : ℕ) {v : Val} → Is usize n (v ∷ []) → Step K W (‵ (usize .own n (v ∷ [])) ∷ Γ) G Γ G
+  has-word t n {v} is = owned t usize (Is usize) (uint-makes 𝓤 H A W w64) n (v ∷ []) is
 
-pub table-typed : {M : Type 1} (𝓤 : URA M) (H : Heap 𝓤) (A : Atoms 𝓤) → Given 𝓤 H A → (t : List Entry) (v : Val) → Is Table t (v ∷ []) → T (hasTy (tyArray entryLaws.mir 256) v) × WT v
+  pub has-table : K → (t : List Entry) {v : Val} → Is Table t (v ∷ []) → Step K W (‵ (Table .own t (v ∷ [])) ∷ Γ) G Γ G
+  has-table k t {v} is = owned k Table (Is Table) (array-makes 𝓤 H A W Row (LL.makes entry.the-type entryLaws.the-plain 𝓤 H A) 256) t (v ∷ []) is
+
+pub table-typed : {M : Type 1} (𝓤 : URA M) (H : Heap 𝓤) (A : Atoms 𝓤) → Given 𝓤 H A → (t : List Entry) (v : Val)
+    → Is Table t (v ∷ []) → T (hasTy (tyArray entryLaws.mir 256) v) × WT v
 table-typed 𝓤 H A W t v is = array-lawful 𝓤 H A W Row (LL.lawful entry.the-type entryLaws.the-laws 𝓤 H A W) 256 .typed t (v ∷ []) is .0
 
 abbrev pub CheckTypes : Lfts 3 → List RattleType
@@ -38,13 +45,8 @@ abbrev pub check-spells : (κs : Lfts 3) → Spells (CheckTypes κs)
 check-spells κs = (slice-vals, (slice-vals, (uint-vals w32, (slice-vals, tt))))
 
 pub check-tells : (κs : Lfts 3) → Tellss (CheckTypes κs) (Ises (CheckTypes κs)) (check-spells κs)
-check-tells κs = (shr-slice-tells (named 0) (κs .0) u16, (shr-slice-tells (named 1) (κs .1 .0) Arrow, (uint-tells w32, (shr-slice-tells (named 2) (κs .1 .1 .0) Row, tt))))
-
-abbrev pub check-vals : (κs : Lfts 3) → Denots (CheckTypes κs) → Valss (CheckTypes κs)
-check-vals κs = valss (CheckTypes κs) (check-spells κs)
-
-abbrev pub CheckAre : (κs : Lfts 3) → Denots (CheckTypes κs) → Type 0
-CheckAre κs a = Are (CheckTypes κs) (Ises (CheckTypes κs)) a (check-vals κs a)
+check-tells κs =
+    (shr-slice-tells (named 0) (κs .0) u16, (shr-slice-tells (named 1) (κs .1 .0) Arrow, (uint-tells w32, (shr-slice-tells (named 2) (κs .1 .1 .0) Row, tt))))
 
 abbrev pub ListSlots : List (Slot 4)
 ListSlots =
@@ -62,12 +64,6 @@ list-tells κs = (
   shr-slice-tells (named 0) (κs .0) u16,
   (shr-slice-tells (named 1) (κs .1 .0) Arrow, (uint-tells w32, (shr-slice-tells (named 2) (κs .1 .1 .0) u16, (mut-slice-tells (named 3) (κs .1 .1 .1 .0) Row, tt)))),
 )
-
-abbrev pub list-vals : (κs : Lfts 4) → Denots (ListTypes κs) → Valss (ListTypes κs)
-list-vals κs = valss (ListTypes κs) (list-spells κs)
-
-abbrev pub ListAre : (κs : Lfts 4) → Denots (ListTypes κs) → Type 0
-ListAre κs a = Are (ListTypes κs) (Ises (ListTypes κs)) a (list-vals κs a)
 
 -- the plan that is written is given up for good, and its last list is said; nothing is had of the others
 abbrev pub list-stay : Stays ListSlots (yes, (yes, (yes, (yes, (yes, tt)))))
@@ -87,4 +83,5 @@ module _ {M : Type 1} (𝓤 : URA M) (H : Heap 𝓤) (A : Atoms 𝓤) (W : Given
   )
 
   pub list-had : (F : Fml) → ent 𝓤 (sem 𝓤 H A F) (sem 𝓤 H A (fsep ftrue (fsep ftrue (fsep ftrue (fsep ftrue (fsep F ftrue))))))
-  list-had F = qed W (‵ F ∷ []) ∵ nothing ! $ move ! (1 ∷ 0 ∷ []) $ fjoin ! $ nothing ! $ fjoin ! $ nothing ! $ fjoin ! $ nothing ! $ fjoin ! $ nothing ! $ fjoin ! $ done !
+  list-had F =
+      qed W (‵ F ∷ []) ∵ nothing ! $ move ! (1 ∷ 0 ∷ []) $ fjoin ! $ nothing ! $ fjoin ! $ nothing ! $ fjoin ! $ nothing ! $ fjoin ! $ nothing ! $ fjoin ! $ done !

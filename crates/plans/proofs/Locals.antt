@@ -1,9 +1,10 @@
--- The locals of a function that is walked by hand, all at once: they are allocated, and at the end they are let go. A local is read, set or passed by the position of its cell.
+-- The locals of a function that is walked by hand, all at once: they are allocated, and at the end they are let go.
+-- A local is read, set or passed by the position of its cell.
 -- It says nothing of the crate, and can be copied as it stands. Assumes `Given`.
-use Rattle.plans.proofs.Walking.{_≡_, refl, sym, subst, ℕ, zero, suc, _+_, List, [], _∷_, T, URA, fullShare, Ty, Local, local, place, Operand, copy}
-use Rattle.plans.proofs.Walking.{RValue, Body, seq, assign, Val, hasTy, WT, Share, fat, froom, fdies, Heap, Env, Calls, Loops, Spot, spotOf, Atoms}
-use Rattle.plans.proofs.Walking.{Given, Item, ‵, nth, put, Post, Goal, runs, lands, allocs, frees, Seq, Step, step, _$_, Opd, Opds, Rv, look, init}
-use Rattle.plans.proofs.Walking.{forget, stop, from, load, and-then, assigns, land, alloc1, alloc0, free1, free0}
+use Rattle.plans.proofs.Walking.{_≡_, refl, sym, subst, ℕ, zero, suc, _+_, List, [], _∷_, URA, fullShare, Ty, Local, local, place, Operand, copy}
+use Rattle.plans.proofs.Walking.{RValue, Body, seq, assign, Val, hasTy, WT, fat, froom, Share, fdies, Heap, Env, Calls, Loops, Spot, spotOf, Atoms}
+use Rattle.plans.proofs.Walking.{passes, Goal, Given, Item, ‵, Seq, Step, step, _$_, nth, put, Post, runs, lands, allocs, frees, forget, Opd, Opds, Rv}
+use Rattle.plans.proofs.Walking.{look, init, stop, from, load, and-then, assigns, land, alloc1, alloc0, free1, free0, pass1, T}
 
 -- n positions from p on; and those of n locals that stand from p on, the first local last, each with what lets it die
 abbrev pub span : ℕ → ℕ → List ℕ
@@ -76,6 +77,11 @@ module _ {M : Type 1} {𝓤 : URA M} {H : Heap 𝓤} {A : Atoms 𝓤} {K : Type 
 
   pub let-go : K → (fs : List Fill) {E : Env 𝓤 H} {Γ Γ′ : List (Item 𝓤)} {g : Goal 𝓤 H} → Γ′ ≡ in-order 𝓤 H E fs Γ → Step K W Γ g Γ′ (frees E g)
   let-go t fs {E} {Γ} {Γ′} {g} e = step (λ s. subst (λ (Δ : List (Item 𝓤)). Seq K W Δ (frees E g)) (sym e) (lets-go t E fs s))
+
+  -- an argument is stored
+  pub takes : K → {Γ : List (Item 𝓤)} {E : Env 𝓤 H} {τ : Ty} {b : ℕ} {v : Val} {vs : List Val} {g : Goal 𝓤 H} (n : ℕ) → nth 𝓤 H A n Γ ≡ ‵ (froom τ b 0) → T (hasTy τ v) × WT v
+      → Step K W (put 𝓤 H A n (‵ (fat fullShare τ b 0 v)) Γ) (passes E vs g) Γ (passes ((τ, b) ∷ E) (v ∷ vs) g)
+  takes t n e wt = pass1 t (init t n e wt)
 
 module _ {M : Type 1} {𝓤 : URA M} {H : Heap 𝓤} {A : Atoms 𝓤} {K : Type 0} {W : Given 𝓤 H A} {Γ : List (Item 𝓤)} {E : Env 𝓤 H} {i : ℕ} where
   -- the value of the local whose cell is entry n, and such a value as the next argument of a call

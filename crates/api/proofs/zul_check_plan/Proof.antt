@@ -1,9 +1,12 @@
 -- `zul_check_plan` meets its contract: a walk of its MIR, by hand. All that it knows of `check_plan` and `flatten_end` is that each meets its contract.
 -- What the slices own is had twice at the start: one copy is kept whole for the exit, and the other goes to `check_plan`.
 -- Assumes nothing.
-use Rattle.plans.proofs.Walking.{_≡_, refl, [], _∷_, URA, SProp, emp, id⊢, via, fst∗, Memory, Routine, Heap, WpFn, Tables, Atoms, Lfts, Shares, Fun, factI}
-use Rattle.plans.proofs.Walking.{givenOf, tables, tablesOf, Given, _$_, _∵_, !, by, move, keep, group, look, init, no-more, returns, enter, params1, pass1}
-use Rattle.plans.proofs.Walking.{pass0, fmOf, nothing, Args, Vals, Meets, Clauses, entered, cited, walkOf}
+use Rattle.plans.proofs.Walking.{_≡_, refl, [], _∷_, URA, WpFn, Heap, Tables, Atoms, Given, _$_, move, _∵_, !, by, keep, group, look, returns, enter, params1}
+use Rattle.plans.proofs.Walking.{pass0, no-more, mem, SProp, emp, id⊢, via, fst∗, Lfts, Shares, Fun, factI, nothing, Args, Vals, Clauses, Meets, walkOf}
+use Rattle.plans.proofs.Walking.{Memory, Routine, tablesOf, givenOf, tables, entered, cited}
+use Rattle.plans.proofs.Locals.{span, locals, allocated, let-go, takes, passing, sets-result, held}
+use Rattle.plans.proofs.Asking.{begins, spelling, Spelled, Known, brings, asks, dropped, dropped-go, ends-dropped, Walk, met-by}
+use Rattle.plans.proofs.Lending.{check-spells, check-tells}
 use denote.Struct.Laws as LL
 use denote.Enum.Laws as EL
 use Rattle.terms.specs.declared.PlanEnd.{PlanEnd}
@@ -13,9 +16,6 @@ use Rattle.terms.proofs.PlanEnd as E
 use Rattle.terms.proofs.PlanEnd.Laws as E′
 use Rattle.api.proofs.FlatEnd as F
 use Rattle.api.proofs.FlatEnd.Laws as F′
-use Rattle.plans.proofs.Lending.{check-spells, check-tells, check-vals, CheckAre}
-use Rattle.plans.proofs.Locals.{held, span, locals, allocated, let-go, passing, sets-result}
-use Rattle.plans.proofs.Asking.{begins, Known, brings, asks, dropped, dropped-go, ends-dropped, Walk, met-by}
 use Rattle.plans.proofs.check_plan as check
 use Rattle.plans.proofs.check_plan.Symbol as check-def
 use Rattle.plans.proofs.check_plan.Met as check-thm
@@ -33,9 +33,9 @@ module _ {M : Type 1} (𝓤 : URA M) (H : Heap 𝓤) (A : Atoms 𝓤) (W : Given
   abbrev promised : Clauses 𝓤 f.ended
   promised = f.clauses 𝓤 H A mem run
 
-  module _ (κs : Lfts 3) (qs : Shares 3) (a : Args f.signature κs) (are : CheckAre κs a) where
+  module _ (κs : Lfts 3) (qs : Shares 3) (a : Args f.signature κs) (are : Spelled f.ended check-spells κs a) where
     abbrev vs : Vals f.signature κs
-    vs = check-vals κs a
+    vs = spelling f.ended check-spells κs a
 
     abbrev Entered : walkOf 𝓤 H A f.ended (dropped f.ended) promised .Ghost
     Entered = ((κs, qs, tt, a, vs), tt)
@@ -43,17 +43,17 @@ module _ {M : Type 1} (𝓤 : URA M) (H : Heap 𝓤) (A : Atoms 𝓤) (W : Given
     abbrev Checked : PlanEnd → Type 0
     Checked = IsChecked (a .0 .now) (a .1 .0 .now) (a .1 .1 .0) (a .1 .1 .1 .0 .now)
 
-    walk : Walk 𝓤 H A W f.ended (dropped f.ended) promised code.function (𝓣 .C) (𝓣 .Λ) Entered
+    walk : Walk 𝓤 H A W f.ended (dropped f.ended) promised code.function 𝓣 Entered
     walk =
         begins 𝓤 H A W f.signature κs qs a vs ∵ enter ! (𝓣 .C) (𝓣 .Λ) code.function _ _ $ allocated ! (λ l. params1 ! $
-        pass1 ! (init ! 8 refl (tt, (tt, (record { fits = are .0 .0 .1 .0 }, tt)))) $ pass1 ! (init ! 6 refl (tt, (tt, (record { fits = are .1 .0 .0 .1 .0 }, tt)))) $
-        pass1 ! (init ! 4 refl (tt, record { fits = are .1 .1 .0 .1 })) $ pass1 ! (init ! 2 refl (tt, (tt, (record { fits = are .1 .1 .1 .0 .0 .1 .0 }, tt)))) $ pass0 ! $
+        takes ! 8 refl (tt, (tt, (record { fits = are .0 .0 .1 .0 }, tt))) $ takes ! 6 refl (tt, (tt, (record { fits = are .1 .0 .0 .1 .0 }, tt))) $
+        takes ! 4 refl (tt, record { fits = are .1 .1 .0 .1 }) $ takes ! 2 refl (tt, (tt, (record { fits = are .1 .1 .1 .0 .0 .1 .0 }, tt))) $ pass0 ! $
         -- [_5; …; _0; …; the three tokens; true; the times; the arrows; m; the plan; true]: `check_plan`
-        move ! (span 12 9) $ brings ! 4 5 _ (id⊢ 𝓤 _) $ asks ! (fmOf 𝓤 H (W .laws) 𝓣) known-check ((κs, qs, tt, a, vs), tt) (λ r _. Checked r) (λ r _. id⊢ 𝓤 _)
+        move ! (span 12 9) $ brings ! 4 5 _ (id⊢ 𝓤 _) $ asks ! 𝓣 known-check ((κs, qs, tt, a, vs), tt) (λ r _. Checked r) (λ r _. id⊢ 𝓤 _)
         (passing ! 9 refl (passing ! 7 refl (passing ! 5 refl (passing ! 3 refl (no-more !))))) (λ w₅ r _ e is₅.
         -- [the tokens; true; the reply; nothing; _5; …; _0; …]: `flatten_end`
         sets-result ! 6 refl (EL.lawful E.the-type E′.the-laws 𝓤 H A W tt .typed r _ is₅ .0) $ nothing ! $ nothing ! $ move ! (0 ∷ 6 ∷ 1 ∷ []) $ brings ! 1 2 _ (id⊢ 𝓤 _) $
-        asks ! (fmOf 𝓤 H (W .laws) 𝓣) known-flat ((tt, tt, tt, (r, tt), (w₅ ∷ [], tt)), tt) (λ s _. s ≡ flatEnd r) (λ s _. id⊢ 𝓤 _) (passing ! 6 refl (no-more !)) (λ w s _ e₀ is.
+        asks ! 𝓣 known-flat ((tt, tt, tt, (r, tt), (w₅ ∷ [], tt)), tt) (λ s _. s ≡ flatEnd r) (λ s _. id⊢ 𝓤 _) (passing ! 6 refl (no-more !)) (λ w s _ e₀ is.
         -- [true; the flat reply; nothing; the tokens; true; nothing; _5; …; _0; …]
         sets-result ! 18 refl (LL.lawful F.the-type F′.the-laws 𝓤 H A W .typed s _ is .0) $ returns ! (look ! 18 refl) $
         move ! (locals 8 6) $ let-go ! (held _ ∷ held _ ∷ held _ ∷ held _ ∷ held _ ∷ held _ ∷ []) refl $ keep ! (3 ∷ 4 ∷ 5 ∷ 6 ∷ 1 ∷ []) $ group ! 4 $

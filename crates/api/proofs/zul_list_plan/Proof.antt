@@ -1,10 +1,13 @@
 -- `zul_list_plan` meets its contract: a walk of its MIR, by hand. All that it knows of `list_plan` and `flatten_end` is that each meets its contract.
 -- What the rows that are only read own is had twice at the start: one copy is kept for the exit. The plan's row is given up for good to `list_plan` (`gave-slice`), which says its last list.
 -- Assumes nothing.
-use Rattle.plans.proofs.Walking.{_≡_, refl, List, [], _∷_, URA, SProp, emp, id⊢, via, fst∗, Memory, Routine, Heap, WpFn, Tables, Atoms, Lfts, Shares, Fun}
-use Rattle.plans.proofs.Walking.{factI, givenOf, tables, tablesOf, Given, _$_, _∵_, !, by, move, keep, drop, group, fsplit, feqL, whole, sub, look-in, agg}
-use Rattle.plans.proofs.Walking.{look, init, stop, hop, fld, from, load, addr, and-then, no-more, returns, enter, params1, pass1, pass0, fmOf, RefT, finally}
-use Rattle.plans.proofs.Walking.{nothing, Args, Vals, Meets, Clauses, entered, cited, walkOf}
+use Rattle.plans.proofs.Walking.{_≡_, refl, List, [], _∷_, URA, WpFn, Heap, Tables, Atoms, Given, _$_, move, drop, fsplit, feqL, _∵_, !, by, keep, group}
+use Rattle.plans.proofs.Walking.{look, stop, from, load, and-then, hop, fld, addr, returns, enter, params1, pass0, no-more, mem, SProp, emp, id⊢, via, fst∗}
+use Rattle.plans.proofs.Walking.{Lfts, Shares, Fun, factI, nothing, Args, Vals, Clauses, Meets, walkOf, finally, Memory, Routine, tablesOf, givenOf, tables}
+use Rattle.plans.proofs.Walking.{whole, sub, look-in, agg, entered, cited, RefT}
+use Rattle.plans.proofs.Locals.{span, locals, allocated, let-go, takes, passing, sets, sets-result, held}
+use Rattle.plans.proofs.Asking.{begins, spelling, Spelled, Known, brings, asks, ends, Walk, met-by}
+use Rattle.plans.proofs.Lending.{Row, list-spells, list-tells, list-stay, list-go, list-had}
 use denote.Struct.Laws as LL
 use denote.Enum.Laws as EL
 use Rattle.terms.specs.declared.Entry.{Entry}
@@ -15,9 +18,6 @@ use Rattle.terms.proofs.PlanEnd as E
 use Rattle.terms.proofs.PlanEnd.Laws as E′
 use Rattle.api.proofs.FlatEnd as F
 use Rattle.api.proofs.FlatEnd.Laws as F′
-use Rattle.plans.proofs.Lending.{Row, list-spells, list-tells, list-vals, ListAre, list-stay, list-go, list-had}
-use Rattle.plans.proofs.Locals.{held, span, locals, allocated, let-go, passing, sets, sets-result}
-use Rattle.plans.proofs.Asking.{begins, Known, brings, asks, ends, Walk, met-by}
 use Rattle.plans.proofs.list_plan as list
 use Rattle.plans.proofs.list_plan.Symbol as list-def
 use Rattle.plans.proofs.list_plan.Met as list-thm
@@ -35,9 +35,9 @@ module _ {M : Type 1} (𝓤 : URA M) (H : Heap 𝓤) (A : Atoms 𝓤) (W : Given
   abbrev promised : Clauses 𝓤 f.ended
   promised = f.clauses 𝓤 H A mem run
 
-  module _ (κs : Lfts 4) (qs : Shares 4) (a : Args f.signature κs) (are : ListAre κs a) where
+  module _ (κs : Lfts 4) (qs : Shares 4) (a : Args f.signature κs) (are : Spelled f.ended list-spells κs a) where
     abbrev vs : Vals f.signature κs
-    vs = list-vals κs a
+    vs = spelling f.ended list-spells κs a
 
     abbrev Entered : walkOf 𝓤 H A f.ended list-stay promised .Ghost
     Entered = ((κs, qs, tt, a, vs), tt)
@@ -48,23 +48,23 @@ module _ {M : Type 1} (𝓤 : URA M) (H : Heap 𝓤) (A : Atoms 𝓤) (W : Given
     abbrev Listed : List Entry → PlanEnd → Type 0
     Listed = IsListed (a .0 .now) (a .1 .0 .now) (a .1 .1 .0) (a .1 .1 .1 .0 .now) (plan .now)
 
-    walk : Walk 𝓤 H A W f.ended list-stay promised code.function (𝓣 .C) (𝓣 .Λ) Entered
+    walk : Walk 𝓤 H A W f.ended list-stay promised code.function 𝓣 Entered
     walk =
         begins 𝓤 H A W f.signature κs qs a vs ∵ enter ! (𝓣 .C) (𝓣 .Λ) code.function _ _ $ allocated ! (λ l. params1 ! $
-        pass1 ! (init ! 14 refl (tt, (tt, (record { fits = are .0 .0 .1 .0 }, tt)))) $ pass1 ! (init ! 12 refl (tt, (tt, (record { fits = are .1 .0 .0 .1 .0 }, tt)))) $
-        pass1 ! (init ! 10 refl (tt, record { fits = are .1 .1 .0 .1 })) $ pass1 ! (init ! 8 refl (tt, (tt, (record { fits = are .1 .1 .1 .0 .0 .1 .0 }, tt)))) $
-        pass1 ! (init ! 6 refl (tt, (tt, (record { fits = are .1 .1 .1 .1 .0 .0 .1 .0 }, tt)))) $ pass0 ! $
+        takes ! 14 refl (tt, (tt, (record { fits = are .0 .0 .1 .0 }, tt))) $ takes ! 12 refl (tt, (tt, (record { fits = are .1 .0 .0 .1 .0 }, tt))) $
+        takes ! 10 refl (tt, record { fits = are .1 .1 .0 .1 }) $ takes ! 8 refl (tt, (tt, (record { fits = are .1 .1 .1 .0 .0 .1 .0 }, tt))) $
+        takes ! 6 refl (tt, (tt, (record { fits = are .1 .1 .1 .1 .0 .0 .1 .0 }, tt))) $ pass0 ! $
         sets ! (addr ! (from ! (fld ! refl (hop ! (look-in ! 6 (sub ! 0 refl (whole !))) (stop !))))) 2 refl (tt, tt) $
         sets ! (agg ! (passing ! 2 refl (and-then ! (load ! (from ! (fld ! refl (stop !))) (look-in ! 6 (sub ! 1 refl (whole !)))) (no-more !)))) 0 refl
         (tt, (tt, (record { fits = are .1 .1 .1 .1 .0 .0 .1 .0 }, tt))) $
         -- [_8; …; _0; …; the four tokens; true; the times; the arrows; m; the order; the plan; true]: `list_plan`
-        move ! (span 18 11) $ brings ! 5 6 _ (id⊢ 𝓤 _) $ asks ! (fmOf 𝓤 H (W .laws) 𝓣) known-list ((κs, qs, tt, a, vs), tt) (λ r zs. Listed (zs .1 .1 .1 .1 .0) r) (λ r zs. id⊢ 𝓤 _)
+        move ! (span 18 11) $ brings ! 5 6 _ (id⊢ 𝓤 _) $ asks ! 𝓣 known-list ((κs, qs, tt, a, vs), tt) (λ r zs. Listed (zs .1 .1 .1 .1 .0) r) (λ r zs. id⊢ 𝓤 _)
         (passing ! 15 refl (passing ! 13 refl (passing ! 11 refl (passing ! 9 refl (passing ! 1 refl (no-more !)))))) (λ w₆ r zs e is₆.
         -- [the tokens; true; the reply; the last values; _8; …; _0; …]
         move ! (6 ∷ []) $ fsplit ! $ drop ! $ fsplit ! $ drop ! $ fsplit ! $ drop ! $ fsplit ! $ drop ! $ fsplit ! $ fsplit ! $ move ! (1 ∷ []) $ feqL ! (λ same.
         -- [the last list; nothing; the tokens; true; the reply; _8; …; _0; …]: `flatten_end`
         sets-result ! 12 refl (EL.lawful E.the-type E′.the-laws 𝓤 H A W tt .typed r _ is₆ .0) $ nothing ! $ nothing ! $ move ! (0 ∷ 9 ∷ 1 ∷ []) $ brings ! 1 2 _ (id⊢ 𝓤 _) $
-        asks ! (fmOf 𝓤 H (W .laws) 𝓣) known-flat ((tt, tt, tt, (r, tt), (w₆ ∷ [], tt)), tt) (λ s _. s ≡ flatEnd r) (λ s _. id⊢ 𝓤 _) (passing ! 12 refl (no-more !)) (λ w s _ e₀ is.
+        asks ! 𝓣 known-flat ((tt, tt, tt, (r, tt), (w₆ ∷ [], tt)), tt) (λ s _. s ≡ flatEnd r) (λ s _. id⊢ 𝓤 _) (passing ! 12 refl (no-more !)) (λ w s _ e₀ is.
         -- [true; the flat reply; nothing; the last list; nothing; the tokens; true; _8; …; _0; …]
         sets-result ! 26 refl (LL.lawful F.the-type F′.the-laws 𝓤 H A W .typed s _ is .0) $ returns ! (look ! 26 refl) $
         move ! (locals 10 9) $ let-go ! (held _ ∷ held _ ∷ held _ ∷ held _ ∷ held _ ∷ held _ ∷ held _ ∷ held _ ∷ held _ ∷ []) refl $ keep ! (5 ∷ 6 ∷ 7 ∷ 8 ∷ 9 ∷ 3 ∷ 1 ∷ []) $ group ! 5 $

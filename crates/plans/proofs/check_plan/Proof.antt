@@ -1,17 +1,17 @@
 -- `plans::check_plan` meets its contract: a walk of its MIR, by hand. All that it knows of `fit`, `blank`, `copy_in` and `check_table` is that each meets its contract.
 -- What the slices own is had twice at the start: one copy is kept whole for the exit, and the other goes to the callees. What a number or a table owns is made anew where a callee asks for it.
 -- Assumes nothing.
-use Rattle.plans.proofs.Walking.{_≡_, refl, subst, ℕ, _≤_, List, [], _∷_, length, URA, w64, vint, SProp, emp, id⊢, via, fst∗, Memory, Routine, Heap}
-use Rattle.plans.proofs.Walking.{WpFn, Tables, Atoms, Lfts, Shares, Fun, factI, givenOf, tables, tablesOf, Given, _$_, _∵_, !, by, move, keep, drop}
-use Rattle.plans.proofs.Walking.{group, whole, sub, look-in, look, init, stop, fld, from, load, of-opd, no-more, returns, enter, params1, pass1, pass0}
-use Rattle.plans.proofs.Walking.{fmOf, Is, uint-makes, uint-lawful, usize, owned, nothing, Args, Vals, Meets, Clauses, entered, cited, walkOf}
+use Rattle.plans.proofs.Walking.{_≡_, refl, subst, ℕ, _≤_, List, [], _∷_, length, URA, w64, vint, WpFn, Heap, Tables, Atoms, Given, _$_, move, drop}
+use Rattle.plans.proofs.Walking.{_∵_, !, by, keep, group, look, stop, from, load, fld, of-opd, returns, enter, params1, pass0, no-more, mem, SProp}
+use Rattle.plans.proofs.Walking.{emp, id⊢, via, fst∗, Lfts, Shares, Fun, factI, nothing, Args, Vals, Clauses, Meets, walkOf, uint-lawful, Memory}
+use Rattle.plans.proofs.Walking.{Routine, tablesOf, givenOf, tables, whole, sub, look-in, entered, cited}
+use Rattle.plans.proofs.Locals.{locals, allocated, let-go, takes, passing, sets, sets-result, held}
+use Rattle.plans.proofs.Asking.{begins, spelling, Spelled, Known, brings, asks, dropped, dropped-go, ends-dropped, Walk, met-by}
+use Rattle.plans.proofs.Lending.{has-word, has-table, table-typed, check-spells, check-tells}
 use denote.Enum.Laws as EL
 use Rattle.terms.specs.declared.Entry.{Entry}
 use Rattle.plancheck.specs.Tables.{ChecksTable}
 use Rattle.plans.specs.Copies.{over}
-use Rattle.plans.proofs.Lending.{Table, table-typed, table-makes, check-spells, check-tells, check-vals, CheckAre}
-use Rattle.plans.proofs.Locals.{held, locals, allocated, let-go, passing, sets, sets-result}
-use Rattle.plans.proofs.Asking.{begins, Known, brings, asks, dropped, dropped-go, ends-dropped, Walk, met-by}
 use Rattle.plans.proofs.Rows.{checked}
 use Rattle.terms.proofs.PlanEnd as E
 use Rattle.terms.proofs.PlanEnd.Laws as E′
@@ -40,7 +40,7 @@ module _ {M : Type 1} (𝓤 : URA M) (H : Heap 𝓤) (A : Atoms 𝓤) (W : Given
   abbrev promised : Clauses 𝓤 f.ended
   promised = f.clauses 𝓤 H A mem run
 
-  module _ (κs : Lfts 3) (qs : Shares 3) (a : Args f.signature κs) (are : CheckAre κs a) where
+  module _ (κs : Lfts 3) (qs : Shares 3) (a : Args f.signature κs) (are : Spelled f.ended check-spells κs a) where
     abbrev times : List ℕ
     times = a .0 .now
 
@@ -57,7 +57,7 @@ module _ {M : Type 1} (𝓤 : URA M) (H : Heap 𝓤) (A : Atoms 𝓤) (W : Given
     n = length plan
 
     abbrev vs : Vals f.signature κs
-    vs = check-vals κs a
+    vs = spelling f.ended check-spells κs a
 
     abbrev Entered : walkOf 𝓤 H A f.ended (dropped f.ended) promised .Ghost
     Entered = ((κs, qs, tt, a, vs), tt)
@@ -65,29 +65,29 @@ module _ {M : Type 1} (𝓤 : URA M) (H : Heap 𝓤) (A : Atoms 𝓤) (W : Given
     abbrev Fitted : ℕ → Type 0
     Fitted k = (k ≤ n) × (k ≤ 256) × (n ≤ 256 → k ≡ n)
 
-    walk : Walk 𝓤 H A W f.ended (dropped f.ended) promised code.function (𝓣 .C) (𝓣 .Λ) Entered
+    walk : Walk 𝓤 H A W f.ended (dropped f.ended) promised code.function 𝓣 Entered
     walk =
         begins 𝓤 H A W f.signature κs qs a vs ∵ enter ! (𝓣 .C) (𝓣 .Λ) code.function _ _ $ allocated ! (λ l. params1 ! $
-        pass1 ! (init ! 14 refl (tt, (tt, (record { fits = are .0 .0 .1 .0 }, tt)))) $ pass1 ! (init ! 12 refl (tt, (tt, (record { fits = are .1 .0 .0 .1 .0 }, tt)))) $
-        pass1 ! (init ! 10 refl (tt, record { fits = are .1 .1 .0 .1 })) $ pass1 ! (init ! 8 refl (tt, (tt, (record { fits = are .1 .1 .1 .0 .0 .1 .0 }, tt)))) $ pass0 ! $
+        takes ! 14 refl (tt, (tt, (record { fits = are .0 .0 .1 .0 }, tt))) $ takes ! 12 refl (tt, (tt, (record { fits = are .1 .0 .0 .1 .0 }, tt))) $
+        takes ! 10 refl (tt, record { fits = are .1 .1 .0 .1 }) $ takes ! 8 refl (tt, (tt, (record { fits = are .1 .1 .1 .0 .0 .1 .0 }, tt))) $ pass0 ! $
         sets ! (of-opd ! (load ! (from ! (fld ! refl (stop !))) (look-in ! 8 (sub ! 1 refl (whole !))))) 6 refl (tt, record { fits = are .1 .1 .1 .0 .0 .1 .0 }) $
         -- [_8; …; _0; …; the three tokens; true; the times; the arrows; m; the plan; true]: `fit`
-        nothing ! $ owned ! usize (Is usize) (uint-makes 𝓤 H A W w64) n _ (refl, are .1 .1 .1 .0 .0 .1 .0) $ nothing ! $ brings ! 1 2 _ (id⊢ 𝓤 _) $
-        asks ! (fmOf 𝓤 H (W .laws) 𝓣) known-fit ((tt, tt, tt, (n, tt), (vint w64 n ∷ [], tt)), tt) (λ k _. Fitted k) (λ k _. id⊢ 𝓤 _)
+        nothing ! $ has-word ! n (refl, are .1 .1 .1 .0 .0 .1 .0) $ nothing ! $ brings ! 1 2 _ (id⊢ 𝓤 _) $
+        asks ! 𝓣 known-fit ((tt, tt, tt, (n, tt), (vint w64 n ∷ [], tt)), tt) (λ k _. Fitted k) (λ k _. id⊢ 𝓤 _)
         (passing ! 7 refl (no-more !)) (λ w₇ k _ h is₇. drop ! $ drop ! $ drop ! $ sets-result ! 2 refl (uint-lawful 𝓤 H A W w64 .typed k _ is₇ .0) $
         -- `blank`
         nothing ! $ nothing ! $ brings ! 1 1 _ (id⊢ 𝓤 _) $
-        asks ! (fmOf 𝓤 H (W .laws) 𝓣) known-blank ((tt, tt, tt, tt, tt), tt) (λ t _. Unit {0}) (λ t _. factI 𝓤 (Unit {0}) _ tt)
+        asks ! 𝓣 known-blank ((tt, tt, tt, tt, tt), tt) (λ t _. Unit {0}) (λ t _. factI 𝓤 (Unit {0}) _ tt)
         (no-more !) (λ w₈ t _ _ is₈. drop ! $ drop ! $ drop ! $ sets-result ! 0 refl (table-typed 𝓤 H A W t w₈ is₈) $
         -- `copy_in`
-        nothing ! $ owned ! Table (Is Table) (table-makes 𝓤 H A W) t _ is₈ $ owned ! usize (Is usize) (uint-makes 𝓤 H A W w64) k _ is₇ $
+        nothing ! $ has-table ! t is₈ $ has-word ! k is₇ $
         move ! (23 ∷ 24 ∷ 28 ∷ 0 ∷ 1 ∷ 2 ∷ []) $ brings ! 2 4 _ (factI 𝓤 _ (emp 𝓤) (h .0, h .1)) $
-        asks ! (fmOf 𝓤 H (W .laws) 𝓣) known-in
+        asks ! 𝓣 known-in
         (((κs .1 .1 .0, tt), (qs .1 .1 .0, tt), tt, (a .1 .1 .1 .0, (k, (t, tt))), (vs .1 .1 .1 .0, (w₇ ∷ [], (w₈ ∷ [], tt)))), tt) (λ u _. u ≡ over k plan t) (λ u _. id⊢ 𝓤 _)
         (passing ! 9 refl (passing ! 3 refl (passing ! 1 refl (no-more !)))) (λ w₆ u _ e is₆. sets-result ! 8 refl (table-typed 𝓤 H A W u w₆ is₆) $
         -- [the third token; true; what the table owns; nothing; _8; …; _0; …; the first two tokens; the times; the arrows; m; true]: `check_table`
-        owned ! usize (Is usize) (uint-makes 𝓤 H A W w64) n _ (refl, are .1 .1 .1 .0 .0 .1 .0) $ move ! (23 ∷ 24 ∷ 2 ∷ 25 ∷ 26 ∷ 27 ∷ 3 ∷ 0 ∷ 28 ∷ []) $ brings ! 3 6 _ (id⊢ 𝓤 _) $
-        asks ! (fmOf 𝓤 H (W .laws) 𝓣) known-check
+        has-word ! n (refl, are .1 .1 .1 .0 .0 .1 .0) $ move ! (23 ∷ 24 ∷ 2 ∷ 25 ∷ 26 ∷ 27 ∷ 3 ∷ 0 ∷ 28 ∷ []) $ brings ! 3 6 _ (id⊢ 𝓤 _) $
+        asks ! 𝓣 known-check
         (((κs .0, (κs .1 .0, tt)), (qs .0, (qs .1 .0, tt)), tt, (a .0, (a .1 .0, (m, (u, (n, tt))))), (vs .0, (vs .1 .0, (vs .1 .1 .0, (w₆ ∷ [], (vint w64 n ∷ [], tt)))))), tt)
         (λ r _. ChecksTable times arrows m u n r) (λ r _. id⊢ 𝓤 _)
         (passing ! 17 refl (passing ! 15 refl (passing ! 13 refl (passing ! 7 refl (passing ! 9 refl (no-more !)))))) (λ w r _ e₀ is.

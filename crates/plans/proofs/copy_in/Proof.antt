@@ -1,25 +1,25 @@
 -- `plans::copy_in` meets its contract: a walk of its MIR, by hand, with a loop.
 -- The table's cell is taken apart into its row once, before the loop. In each turn the plan is looked into, element i of it is read, and element i of the table's row is written. After the loop the table is put together again and returned.
 -- Assumes nothing.
-use Rattle.plans.proofs.Walking.{_≡_, refl, sym, _∙_, Bool, true, false, ℕ, _+_, _*_, _<_, _≤_, _^_, zero-le, arith, List, [], _∷_, _++_, T, ltb, lit<}
-use Rattle.plans.proofs.Walking.{length, take, drop-list, URA, fullShare, Ty, named, w64, tyBool, tyPtr, tyArray, Val, vbool, vint, vptr, hasTy, WT}
-use Rattle.plans.proofs.Walking.{SProp, emp, fat, fdies, flft, fshr-bor, Memory, Routine, Heap, Env, WpFn, Tables, afterTurn, Atoms, Lfts, Shares, Fun}
-use Rattle.plans.proofs.Walking.{factI, givenOf, tables, tablesOf, Given, Item, ‵, runs, anyQ, atRet, Sq, _$_, _∵_, !, by, move, keep, drop, group}
-use Rattle.plans.proofs.Walking.{rewrite, fsplit, whole, sub, look-in, arr-parts, look, look-raw, store, store-raw, init, forget, stop, hop, fld, from}
-use Rattle.plans.proofs.Walking.{load, lit, addr, of-opd, bin, assigns, assigns-last, first, blocks, stays, leaves-loop, returns, enter, params1}
-use Rattle.plans.proofs.Walking.{pass1, pass0, exec, again, loops, ltb-true, ltb-false, Is, Ises, Are, Spells, valss, shows, uint-vals, uint-tells}
-use Rattle.plans.proofs.Walking.{shares, sliceVal, slice-vals, shr-slice-tells, row, place-is, looks-slice, shuts-slice, typesAt, nothing, peeks, only}
-use Rattle.plans.proofs.Walking.{Args, Meets, entered, needs, walkOf}
+use Rattle.plans.proofs.Walking.{_≡_, refl, sym, _∙_, ℕ, _+_, _<_, _≤_, _*_, _^_, zero-le, List, [], _∷_, _++_, length, take, drop-list, URA}
+use Rattle.plans.proofs.Walking.{fullShare, tyArray, Ty, named, w64, tyBool, tyPtr, Val, hasTy, WT, vbool, vint, vptr, fat, fdies, flft, fshr-bor}
+use Rattle.plans.proofs.Walking.{WpFn, afterTurn, Heap, Env, Tables, Atoms, Given, Item, ‵, _$_, move, drop, rewrite, fsplit, runs, Sq, _∵_, !, by}
+use Rattle.plans.proofs.Walking.{anyQ, atRet, keep, group, forget, look, stop, from, load, assigns, look-raw, store, store-raw, hop, fld, lit, addr}
+use Rattle.plans.proofs.Walking.{of-opd, bin, assigns-last, first, blocks, stays, leaves-loop, returns, enter, params1, pass0, exec, again, loops}
+use Rattle.plans.proofs.Walking.{arr-parts, shares, mem, row, place-is, looks-slice, shuts-slice, T, ltb, lit<, SProp, emp, Lfts, Shares, Fun, factI}
+use Rattle.plans.proofs.Walking.{Is, Spells, shows, peeks, nothing, only, typesAt, Args, Meets, walkOf, needs, uint-vals, uint-tells, slice-vals}
+use Rattle.plans.proofs.Walking.{shr-slice-tells, sliceVal, arith, Bool, true, false, Memory, Routine, tablesOf, givenOf, tables, whole, sub, look-in}
+use Rattle.plans.proofs.Walking.{ltb-true, ltb-false, entered}
+use Rattle.plans.proofs.Local.{array-opens, array-closes}
+use Rattle.plans.proofs.Locals.{locals, Blocks, envOf, cells, allocated, let-go, takes, value, sets, bare, held}
+use Rattle.plans.proofs.Asking.{begins, spelling, Spelled, dropped, dropped-go, ends-dropped, Walk, met-by}
+use Rattle.plans.proofs.Lending.{Row, Table, table-vals, table-tells, table-typed}
+use Rattle.plans.proofs.Over.{over-length}
+use Rattle.plans.proofs.Upto.{Upto, Nearer, nearer-ends}
+use Rattle.plans.proofs.Copying.{at, entry-typed, Turn, turn, Turned, entry-out, entry-back, entry-copied}
 use denote.Struct.Laws as LL
 use Rattle.terms.specs.declared.Entry.{Entry}
 use Rattle.plans.specs.Copies.{over}
-use Rattle.plans.proofs.Lending.{Row, Table, table-vals, table-tells, table-typed}
-use Rattle.plans.proofs.Locals.{Blocks, envOf, cells, bare, held, locals, allocated, let-go, value, sets}
-use Rattle.plans.proofs.Asking.{begins, dropped, dropped-go, ends-dropped, Walk, met-by}
-use Rattle.plans.proofs.Copying.{at, Turn, turn, Turned, entry-typed, entry-out, entry-back, entry-copied}
-use Rattle.plans.proofs.Upto.{Upto, Nearer, nearer-ends}
-use Rattle.plans.proofs.Local.{array-opens, array-closes}
-use Rattle.plans.proofs.Over.{over-length}
 use Rattle.terms.proofs.Entry as T
 use Rattle.terms.proofs.Entry.Laws as T′
 use Rattle.plans.proofs.copy_in.Key.{name as #f}
@@ -36,7 +36,7 @@ abbrev copy-spells : (κs : Lfts 1) → Spells (typesAt (f.signature .params) κ
 copy-spells κs = (slice-vals, (uint-vals w64, (table-vals, tt)))
 
 module _ {M : Type 1} (𝓤 : URA M) (H : Heap 𝓤) (A : Atoms 𝓤) (W : Given 𝓤 H A) (mem : Memory → SProp 𝓤) (run : Routine → Fun 𝓤) where
-  module _ (κs : Lfts 1) (qs : Shares 1) (a : Args f.signature κs) (are : Are (typesAt (f.signature .params) κs) (Ises (typesAt (f.signature .params) κs)) a (valss (typesAt (f.signature .params) κs) (copy-spells κs) a))
+  module _ (κs : Lfts 1) (qs : Shares 1) (a : Args f.signature κs) (are : Spelled f.ended copy-spells κs a)
       (fits : (a .1 .0 ≤ length (a .0 .now)) × (a .1 .0 ≤ 256)) where
     abbrev plan : List Entry
     plan = a .0 .now
@@ -55,7 +55,7 @@ module _ {M : Type 1} (𝓤 : URA M) (H : Heap 𝓤) (A : Atoms 𝓤) (W : Given
     t = a .1 .1 .0
 
     abbrev Entered : walkOf 𝓤 H A f.ended (dropped f.ended) (f.clauses 𝓤 H A mem run) .Ghost
-    Entered = ((κs, qs, tt, a, valss (typesAt (f.signature .params) κs) (copy-spells κs) a), tt)
+    Entered = ((κs, qs, tt, a, spelling f.ended copy-spells κs a), tt)
 
     abbrev Post : Val → SProp 𝓤
     Post = walkOf 𝓤 H A f.ended (dropped f.ended) (f.clauses 𝓤 H A mem run) .post Entered
@@ -133,12 +133,12 @@ module _ {M : Type 1} (𝓤 : URA M) (H : Heap 𝓤) (A : Atoms 𝓤) (W : Given
           all : i .0 ≡ n
           all = omega (arith, i .1, ltb-false (i .0) n e)
 
-    walk : (𝓣 : Tables 𝓤 H) → Walk 𝓤 H A W f.ended (dropped f.ended) (f.clauses 𝓤 H A mem run) code.function (𝓣 .C) (𝓣 .Λ) Entered
+    walk : (𝓣 : Tables 𝓤 H) → Walk 𝓤 H A W f.ended (dropped f.ended) (f.clauses 𝓤 H A mem run) code.function 𝓣 Entered
     walk 𝓣 =
         begins 𝓤 H A W f.signature κs qs a _ ∵ keep ! (2 ∷ 0 ∷ 4 ∷ []) $ fsplit ! $ drop ! $ fsplit ! $ drop ! $
         -- [the fractured borrow; the token; what the table owns]
         enter ! (𝓣 .C) (𝓣 .Λ) code.function _ _ $ allocated ! (λ l. params1 ! $
-        pass1 ! (init ! 22 refl (tt, (tt, (record { fits = are .0 .0 .1 .0 }, tt)))) $ pass1 ! (init ! 20 refl (tt, record { fits = are .1 .0 .1 })) $ pass1 ! (init ! 18 refl typed) $ pass0 ! $
+        takes ! 22 refl (tt, (tt, (record { fits = are .0 .0 .1 .0 }, tt))) $ takes ! 20 refl (tt, record { fits = are .1 .0 .1 }) $ takes ! 18 refl typed $ pass0 ! $
         sets ! (of-opd ! (value ! 18 refl)) 16 refl typed $ sets ! (of-opd ! (lit ! tt)) 14 refl (tt, record { fits = lit< tt }) $
         forget ! 18 refl $ move ! (16 ∷ 28 ∷ []) $ array-opens ! Row tt 256 t (only (table-vals t)) (l₄ 𝓣 l) 0 (λ _. move ! (26 ∷ 27 ∷ 0 ∷ []) $
         first ! $ blocks ! $ loops ! 𝓣 (Nearer n) (nearer-ends n) (At 𝓣 l) (λ i. turn-at 𝓣 l i (ltb (i .0) n) refl) (0, zero-le)))

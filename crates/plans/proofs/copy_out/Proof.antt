@@ -1,25 +1,25 @@
 -- `plans::copy_out` meets its contract: a walk of its MIR, by hand, with a loop.
 -- The table's cell is taken apart into its row once, before the loop. In each turn element i of it is read, the borrow is opened, element i of the plan is written, and the borrow is closed at the list with one element more.
 -- Assumes nothing.
-use Rattle.plans.proofs.Walking.{_≡_, refl, sym, ap, _∙_, subst, Bool, true, false, ℕ, _+_, _*_, _<_, _≤_, _^_, zero-le, arith, List, [], _∷_, _++_, T}
-use Rattle.plans.proofs.Walking.{ltb, lit<, length, take, drop-list, URA, fullShare, Ty, named, w64, tyBool, tyPtr, tyArray, Val, vunit, vbool, vint}
-use Rattle.plans.proofs.Walking.{vptr, hasTy, WT, SProp, ent, emp, GName, Fml, ftrue, fsep, fat, fdies, flft, fobs, fbor, Memory, Routine, Heap, Env}
-use Rattle.plans.proofs.Walking.{WpFn, Tables, afterTurn, Atoms, sem, Lfts, Shares, Fun, factI, givenOf, tables, tablesOf, Given, Item, ‵, runs, anyQ}
-use Rattle.plans.proofs.Walking.{atRet, Sq, _$_, _∵_, !, qed, by, move, keep, drop, group, rewrite, fsplit, fjoin, feqI, done, whole, sub, look-in}
-use Rattle.plans.proofs.Walking.{look, look-raw, store, store-raw, init, forget, stop, hop, fld, from, load, lit, unit-lit, addr, of-opd, bin, assigns}
-use Rattle.plans.proofs.Walking.{assigns-last, first, blocks, stays, leaves-loop, returns, enter, params1, pass1, pass0, exec, again, loops, ltb-true}
-use Rattle.plans.proofs.Walking.{ltb-false, Ises, Are, Spells, valss, uint-vals, uint-tells, usize, sliceVal, MutSlice, Room, heres, codedHoleys}
-use Rattle.plans.proofs.Walking.{at-slice, slice-vals, mut-slice-tells, pureI, Held, row, place-is, opens-slice, closes-slice, plain, typesAt, nothing}
-use Rattle.plans.proofs.Walking.{only, Args, Meets, entered, needs, walkOf, Stays, stay-dropped, stay-slice, goes-dropped, goes-slice, yes}
+use Rattle.plans.proofs.Walking.{_≡_, refl, sym, subst, _∙_, ap, ℕ, _+_, _<_, _≤_, _*_, _^_, zero-le, List, [], _∷_, _++_, length, take, drop-list}
+use Rattle.plans.proofs.Walking.{URA, fullShare, tyArray, Ty, named, w64, tyBool, tyPtr, Val, hasTy, WT, vbool, vint, vptr, vunit, fsep, fat, fdies}
+use Rattle.plans.proofs.Walking.{Fml, ftrue, flft, GName, fobs, fbor, WpFn, afterTurn, Heap, Env, Tables, Atoms, sem, Given, Item, ‵, _$_, move, drop}
+use Rattle.plans.proofs.Walking.{rewrite, fsplit, fjoin, feqI, runs, Sq, _∵_, !, qed, by, done, anyQ, atRet, keep, group, forget, look, stop, from}
+use Rattle.plans.proofs.Walking.{load, assigns, look-raw, store, store-raw, hop, fld, lit, addr, of-opd, bin, assigns-last, first, blocks, stays}
+use Rattle.plans.proofs.Walking.{leaves-loop, returns, enter, params1, pass0, exec, again, loops, unit-lit, mem, row, place-is, opens-slice}
+use Rattle.plans.proofs.Walking.{closes-slice, T, ltb, lit<, SProp, ent, emp, Lfts, Shares, Fun, factI, Spells, nothing, only, typesAt, plain, Args}
+use Rattle.plans.proofs.Walking.{Meets, Stays, stay-dropped, goes-dropped, walkOf, needs, stay-slice, goes-slice, uint-vals, uint-tells, usize}
+use Rattle.plans.proofs.Walking.{slice-vals, mut-slice-tells, sliceVal, MutSlice, Room, heres, codedHoleys, at-slice, yes, arith, Bool, true, false}
+use Rattle.plans.proofs.Walking.{Memory, Routine, tablesOf, givenOf, tables, whole, sub, look-in, ltb-true, ltb-false, entered, pureI, Held}
+use Rattle.plans.proofs.Local.{array-opens, array-room}
+use Rattle.plans.proofs.Locals.{locals, Blocks, envOf, cells, allocated, let-go, takes, value, sets, bare, held}
+use Rattle.plans.proofs.Asking.{begins, spelling, Spelled, ends, Walk, met-by}
+use Rattle.plans.proofs.Lending.{Row, Table, table-vals, table-tells, table-typed}
+use Rattle.plans.proofs.Over.{over-length}
+use Rattle.plans.proofs.Upto.{Upto, Nearer, nearer-ends}
+use Rattle.plans.proofs.Copying.{at, entry-typed, Turn, turn, Turned, entry-out, entry-back, entry-copied}
 use Rattle.terms.specs.declared.Entry.{Entry}
 use Rattle.plans.specs.Copies.{over}
-use Rattle.plans.proofs.Lending.{Row, Table, table-vals, table-tells, table-typed}
-use Rattle.plans.proofs.Locals.{Blocks, envOf, cells, bare, held, locals, allocated, let-go, value, sets}
-use Rattle.plans.proofs.Asking.{begins, ends, Walk, met-by}
-use Rattle.plans.proofs.Copying.{at, Turn, turn, Turned, entry-typed, entry-out, entry-back, entry-copied}
-use Rattle.plans.proofs.Upto.{Upto, Nearer, nearer-ends}
-use Rattle.plans.proofs.Local.{array-opens, array-room}
-use Rattle.plans.proofs.Over.{over-length}
 use Rattle.terms.proofs.Entry as T
 use Rattle.terms.proofs.Entry.Laws as T′
 use Rattle.plans.proofs.copy_out.Key.{name as #f}
@@ -40,7 +40,7 @@ abbrev stayed : Stays (f.ended .signature .params) (f.ended .kept)
 stayed = (stay-slice (0 ∷ []) tt (plain (λ _. Row)), (stay-dropped _ _, (stay-dropped _ _, tt)))
 
 module _ {M : Type 1} (𝓤 : URA M) (H : Heap 𝓤) (A : Atoms 𝓤) (W : Given 𝓤 H A) (mem : Memory → SProp 𝓤) (run : Routine → Fun 𝓤) where
-  module _ (κs : Lfts 1) (qs : Shares 1) (a : Args f.signature κs) (are : Are (typesAt (f.signature .params) κs) (Ises (typesAt (f.signature .params) κs)) a (valss (typesAt (f.signature .params) κs) (copy-spells κs) a))
+  module _ (κs : Lfts 1) (qs : Shares 1) (a : Args f.signature κs) (are : Spelled f.ended copy-spells κs a)
       (fits : (a .1 .1 .0 ≤ length (a .0 .now)) × (a .1 .1 .0 ≤ 256)) where
     abbrev plan : List Entry
     plan = a .0 .now
@@ -62,7 +62,7 @@ module _ {M : Type 1} (𝓤 : URA M) (H : Heap 𝓤) (A : Atoms 𝓤) (W : Given
     n = a .1 .1 .0
 
     abbrev Entered : walkOf 𝓤 H A f.ended stayed (f.clauses 𝓤 H A mem run) .Ghost
-    Entered = ((κs, qs, tt, a, valss (typesAt (f.signature .params) κs) (copy-spells κs) a), tt)
+    Entered = ((κs, qs, tt, a, spelling f.ended copy-spells κs a), tt)
 
     abbrev Post : Val → SProp 𝓤
     Post = walkOf 𝓤 H A f.ended stayed (f.clauses 𝓤 H A mem run) .post Entered
@@ -150,12 +150,12 @@ module _ {M : Type 1} (𝓤 : URA M) (H : Heap 𝓤) (A : Atoms 𝓤) (W : Given
           all : i .0 ≡ n
           all = omega (arith, i .1, ltb-false (i .0) n e)
 
-    walk : (𝓣 : Tables 𝓤 H) → Walk 𝓤 H A W f.ended stayed (f.clauses 𝓤 H A mem run) code.function (𝓣 .C) (𝓣 .Λ) Entered
+    walk : (𝓣 : Tables 𝓤 H) → Walk 𝓤 H A W f.ended stayed (f.clauses 𝓤 H A mem run) code.function 𝓣 Entered
     walk 𝓣 =
         begins 𝓤 H A W f.signature κs qs a _ ∵ keep ! (2 ∷ 0 ∷ 3 ∷ []) $ fsplit ! $ drop ! $ fsplit ! $
         -- [obs; the borrow; the token; what the table owns]
         enter ! (𝓣 .C) (𝓣 .Λ) code.function _ _ $ allocated ! (λ l. params1 ! $
-        pass1 ! (init ! 22 refl (tt, (tt, (record { fits = are .0 .0 .1 .0 }, tt)))) $ pass1 ! (init ! 20 refl typed) $ pass1 ! (init ! 18 refl (tt, record { fits = are .1 .1 .0 .1 })) $ pass0 ! $
+        takes ! 22 refl (tt, (tt, (record { fits = are .0 .0 .1 .0 }, tt))) $ takes ! 20 refl typed $ takes ! 18 refl (tt, record { fits = are .1 .1 .0 .1 }) $ pass0 ! $
         sets ! (of-opd ! (value ! 20 refl)) 16 refl typed $ sets ! (of-opd ! (lit ! tt)) 14 refl (tt, record { fits = lit< tt }) $
         forget ! 20 refl $ move ! (16 ∷ 29 ∷ []) $ array-opens ! Row tt 256 t (only (table-vals t)) (l₄ 𝓣 l) 0 (λ _. move ! (26 ∷ 27 ∷ 28 ∷ 0 ∷ []) $
         first ! $ blocks ! $ loops ! 𝓣 (Nearer n) (nearer-ends n) (At 𝓣 l) (λ i. turn-at 𝓣 l i (ltb (i .0) n) refl) (0, zero-le)))

@@ -1,20 +1,19 @@
 -- `list_plan` meets its contract: a walk of its MIR, by hand. All that it knows of `draft_plan` and `copy_out` is that each meets its contract. The row is given up for good to `copy_out` (`gave-slice`), which says its last list.
 -- Assumes nothing.
-use Rattle.plans.proofs.Walking.{_≡_, refl, sym, _∙_, ap, subst, ℕ, _<_, _≤_, _^_, List, [], _∷_, map, length, length-map, URA, w64, Val, vint, SProp}
-use Rattle.plans.proofs.Walking.{emp, id⊢, via, fst∗, fat, fullShare, Memory, Routine, Heap, WpFn, Tables, Atoms, Lfts, Shares, Fun, factI, givenOf}
-use Rattle.plans.proofs.Walking.{tables, tablesOf, Given, ‵, _$_, _∵_, !, by, move, keep, group, rewrite, fsplit, feqL, whole, sub, look-in, agg, look}
-use Rattle.plans.proofs.Walking.{init, stop, hop, fld, from, load, addr, of-opd, and-then, no-more, returns, enter, params1, pass1, pass0, fmOf, Is}
-use Rattle.plans.proofs.Walking.{uint-makes, nothing-lawful, usize, each, shadow, finally, only, owned, nothing, Args, Vals, Meets, Clauses, entered}
-use Rattle.plans.proofs.Walking.{cited, walkOf}
+use Rattle.plans.proofs.Walking.{_≡_, refl, sym, subst, _∙_, ap, ℕ, _<_, _≤_, _^_, List, [], _∷_, map, length, length-map, URA, fullShare, w64, Val}
+use Rattle.plans.proofs.Walking.{vint, fat, WpFn, Heap, Tables, Atoms, Given, ‵, _$_, move, rewrite, fsplit, feqL, _∵_, !, by, keep, group, look, stop}
+use Rattle.plans.proofs.Walking.{from, load, and-then, hop, fld, addr, of-opd, returns, enter, params1, pass0, no-more, mem, each, SProp, emp, id⊢}
+use Rattle.plans.proofs.Walking.{via, fst∗, Lfts, Shares, Fun, factI, Is, nothing, owned, only, Args, Vals, Clauses, Meets, walkOf, nothing-lawful}
+use Rattle.plans.proofs.Walking.{finally, Memory, Routine, tablesOf, givenOf, tables, whole, sub, look-in, agg, entered, cited, shadow}
+use Rattle.plans.proofs.Locals.{locals, allocated, let-go, takes, passing, sets, sets-result, held}
+use Rattle.plans.proofs.Asking.{begins, spelling, Spelled, Known, brings, asks, ends, Walk, met-by}
+use Rattle.plans.proofs.Lending.{Row, Table, has-word, has-table, list-spells, list-tells, list-stay, list-go, list-had}
 use denote.Struct.Laws as LL
 use denote.Enum.Laws as EL
 use Rattle.terms.specs.declared.Entry.{Entry}
 use Rattle.listplan.specs.declared.Draft.{Draft}
 use Rattle.listplan.specs.Drafts.{IsDraft}
 use Rattle.plans.specs.Copies.{over}
-use Rattle.plans.proofs.Lending.{Row, Table, table-makes, list-spells, list-tells, list-vals, ListAre, list-stay, list-go, list-had}
-use Rattle.plans.proofs.Locals.{held, locals, allocated, let-go, passing, sets, sets-result}
-use Rattle.plans.proofs.Asking.{begins, Known, brings, asks, ends, Walk, met-by}
 use Rattle.plans.proofs.Rows.{fits, listed}
 use Rattle.terms.proofs.Entry as T
 use Rattle.terms.proofs.PlanEnd as E
@@ -54,7 +53,7 @@ module _ {M : Type 1} (𝓤 : URA M) (H : Heap 𝓤) (A : Atoms 𝓤) (W : Given
   abbrev promised : Clauses 𝓤 f.ended
   promised = f.clauses 𝓤 H A mem run
 
-  module _ (κs : Lfts 4) (qs : Shares 4) (a : Args f.signature κs) (are : ListAre κs a) where
+  module _ (κs : Lfts 4) (qs : Shares 4) (a : Args f.signature κs) (are : Spelled f.ended list-spells κs a) where
     abbrev times : List ℕ
     times = a .0 .now
 
@@ -74,7 +73,7 @@ module _ {M : Type 1} (𝓤 : URA M) (H : Heap 𝓤) (A : Atoms 𝓤) (W : Given
     n = length plan
 
     abbrev vs : Vals f.signature κs
-    vs = list-vals κs a
+    vs = spelling f.ended list-spells κs a
 
     abbrev Entered : walkOf 𝓤 H A f.ended list-stay promised .Ghost
     Entered = ((κs, qs, tt, a, vs), tt)
@@ -82,17 +81,17 @@ module _ {M : Type 1} (𝓤 : URA M) (H : Heap 𝓤) (A : Atoms 𝓤) (W : Given
     room : n < 2 ^ 64
     room = are .1 .1 .1 .1 .0 .0 .1 .0
 
-    walk : Walk 𝓤 H A W f.ended list-stay promised code.function (𝓣 .C) (𝓣 .Λ) Entered
+    walk : Walk 𝓤 H A W f.ended list-stay promised code.function 𝓣 Entered
     walk =
         begins 𝓤 H A W f.signature κs qs a vs ∵ enter ! (𝓣 .C) (𝓣 .Λ) code.function _ _ $ allocated ! (λ l. params1 ! $
-        pass1 ! (init ! 18 refl (tt, (tt, (record { fits = are .0 .0 .1 .0 }, tt)))) $ pass1 ! (init ! 16 refl (tt, (tt, (record { fits = are .1 .0 .0 .1 .0 }, tt)))) $
-        pass1 ! (init ! 14 refl (tt, record { fits = are .1 .1 .0 .1 })) $ pass1 ! (init ! 12 refl (tt, (tt, (record { fits = are .1 .1 .1 .0 .0 .1 .0 }, tt)))) $
-        pass1 ! (init ! 10 refl (tt, (tt, (record { fits = room }, tt)))) $ pass0 ! $
+        takes ! 18 refl (tt, (tt, (record { fits = are .0 .0 .1 .0 }, tt))) $ takes ! 16 refl (tt, (tt, (record { fits = are .1 .0 .0 .1 .0 }, tt))) $
+        takes ! 14 refl (tt, record { fits = are .1 .1 .0 .1 }) $ takes ! 12 refl (tt, (tt, (record { fits = are .1 .1 .1 .0 .0 .1 .0 }, tt))) $
+        takes ! 10 refl (tt, (tt, (record { fits = room }, tt))) $ pass0 ! $
         sets ! (of-opd ! (load ! (from ! (fld ! refl (stop !))) (look-in ! 10 (sub ! 1 refl (whole !))))) 8 refl (tt, record { fits = room }) $
         -- [_10; …; _0; …; the four tokens; true; the times; the arrows; m; the order; the plan; true]: `draft_plan`
-        nothing ! $ owned ! usize (Is usize) (uint-makes 𝓤 H A W w64) n _ (refl, room) $
+        nothing ! $ has-word ! n (refl, room) $
         move ! (24 ∷ 25 ∷ 26 ∷ 28 ∷ 29 ∷ 30 ∷ 31 ∷ 32 ∷ 0 ∷ 1 ∷ []) $ brings ! 4 6 _ (id⊢ 𝓤 _) $
-        asks ! (fmOf 𝓤 H (W .laws) 𝓣) known-decide (
+        asks ! 𝓣 known-decide (
           (
             (κs .0, (κs .1 .0, (κs .1 .1 .0, tt))),
             (qs .0, (qs .1 .0, (qs .1 .1 .0, tt))),
@@ -109,10 +108,10 @@ module _ {M : Type 1} (𝓤 : URA M) (H : Heap 𝓤) (A : Atoms 𝓤) (W : Given
         sets ! (addr ! (from ! (fld ! refl (hop ! (look-in ! 16 (sub ! 0 refl (whole !))) (stop !))))) 8 refl (tt, tt) $
         sets ! (agg ! (passing ! 8 refl (and-then ! (load ! (from ! (fld ! refl (stop !))) (look-in ! 16 (sub ! 1 refl (whole !)))) (no-more !)))) 6 refl (tt, (tt, (record { fits = room }, tt))) $
         -- `copy_out`
-        nothing ! $ owned ! usize (Is usize) (uint-makes 𝓤 H A W w64) (d .n) _ (LL.owed D.the-type D′.the-laws d _ is .1 .1 .0) $
-        owned ! Table (Is Table) (table-makes 𝓤 H A W) (d .entries) _ (table-is d _ is) $ move ! (31 ∷ 33 ∷ 32 ∷ 0 ∷ 1 ∷ 2 ∷ []) $
+        nothing ! $ has-word ! (d .n) (LL.owed D.the-type D′.the-laws d _ is .1 .1 .0) $
+        has-table ! (d .entries) (table-is d _ is) $ move ! (31 ∷ 33 ∷ 32 ∷ 0 ∷ 1 ∷ 2 ∷ []) $
         brings ! 2 4 _ (factI 𝓤 _ (emp 𝓤) (fits times arrows m order n (d .entries) (d .n) (d .reply) (h .drafted))) $
-        asks ! (fmOf 𝓤 H (W .laws) 𝓣) known-out
+        asks ! 𝓣 known-out
         (((κs .1 .1 .1 .0, tt), (qs .1 .1 .1 .0, tt), tt, (a .1 .1 .1 .1 .0, (d .entries, (d .n, tt))), (vs .1 .1 .1 .1 .0, (tv d ∷ [], (vint w64 (d .n) ∷ [], tt)))), tt)
         (λ u zs. zs .0 ≡ over (d .n) (d .entries) plan) (λ u zs. id⊢ 𝓤 _)
         (passing ! 7 refl (and-then ! (load ! (from ! (fld ! refl (stop !))) (look-in ! 13 (sub ! 1 refl (whole !))))
