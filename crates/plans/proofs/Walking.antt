@@ -13,7 +13,7 @@ unfoldable pub use prog.Wp.{WpFn, afterTurn}
 pub use prog.Wp.{Heap, Env, Calls, Loops, Spot, spotOf, Tables, Out, Wp, afterSeq, afterBlock, atReturn}
 pub use ghost.Atoms.{Atoms, sem}
 pub use types.Kit.{passes, Goal, Given, Item, ‵, Seq, Step, step, _$_, move, use1, drop, rewrite, fsplit, fjoin, fpick, fpack, feqL, feqI, nth, put, Post, runs}
-pub use types.Kit.{lands, allocs, frees, raw, some, later, _⊛_, mean, ⋆, pop, push, ++⊢, prop, Sq, _∵_, !, qed, by, cut, split, pick, await, done, anyQ}
+pub use types.Kit.{lands, allocs, frees, raw, some, later, _⊛_, mean, ⋆, pop, push, ++⊢, ⊢++, prop, Sq, _∵_, !, qed, by, cut, split, pick, await, done, anyQ}
 pub use types.Kit.{atRet, keep, group}
 pub use types.Run.{forget, Opd, Opds, Rv, look, init, stop, from, load, and-then, assigns, land, alloc1, alloc0, free1, free0, Below, look-raw, store}
 pub use types.Run.{store-raw, hop, fld, lit, addr, of-opd, bin, assigns-last, first, blocks, stays, leaves-loop, returns, enter, params1, pass1, pass0, exec}

@@ -5,7 +5,7 @@ use Rattle.plans.proofs.Walking.{_≡_, refl, [], _∷_, URA, WpFn, Heap, Table
 use Rattle.plans.proofs.Walking.{pass0, no-more, mem, SProp, emp, id⊢, via, fst∗, Lfts, Shares, Fun, factI, nothing, Args, Vals, Clauses, Meets, walkOf}
 use Rattle.plans.proofs.Walking.{Memory, Routine, tablesOf, givenOf, tables, entered, cited}
 use Rattle.plans.proofs.Locals.{span, locals, allocated, let-go, takes, passing, sets-result, held}
-use Rattle.plans.proofs.Asking.{begins, spelling, Spelled, Known, brings, asks, dropped, dropped-go, ends-dropped, Walk, met-by}
+use Rattle.plans.proofs.Asking.{begins, spelling, Spelled, Known, asks, dropped, dropped-go, ends-dropped, Walk, met-by}
 use Rattle.plans.proofs.Lending.{check-spells, check-tells}
 use denote.Struct.Laws as LL
 use denote.Enum.Laws as EL
@@ -49,11 +49,10 @@ module _ {M : Type 1} (𝓤 : URA M) (H : Heap 𝓤) (A : Atoms 𝓤) (W : Given
         takes ! 8 refl (tt, (tt, (record { fits = are .0 .0 .1 .0 }, tt))) $ takes ! 6 refl (tt, (tt, (record { fits = are .1 .0 .0 .1 .0 }, tt))) $
         takes ! 4 refl (tt, record { fits = are .1 .1 .0 .1 }) $ takes ! 2 refl (tt, (tt, (record { fits = are .1 .1 .1 .0 .0 .1 .0 }, tt))) $ pass0 ! $
         -- [_5; …; _0; …; the three tokens; true; the times; the arrows; m; the plan; true]: `check_plan`
-        move ! (span 12 9) $ brings ! 4 5 _ (id⊢ 𝓤 _) $ asks ! 𝓣 known-check ((κs, qs, tt, a, vs), tt) (λ r _. Checked r) (λ r _. id⊢ 𝓤 _)
+        move ! (span 12 9) $ asks ! 𝓣 known-check ((κs, qs, tt, a, vs), tt) (id⊢ 𝓤 _) refl (λ r _. Checked r) (λ r _. id⊢ 𝓤 _)
         (passing ! 9 refl (passing ! 7 refl (passing ! 5 refl (passing ! 3 refl (no-more !))))) (λ w₅ r _ e is₅.
         -- [the tokens; true; the reply; nothing; _5; …; _0; …]: `flatten_end`
-        sets-result ! 6 refl (EL.lawful E.the-type E′.the-laws 𝓤 H A W tt .typed r _ is₅ .0) $ nothing ! $ nothing ! $ move ! (0 ∷ 6 ∷ 1 ∷ []) $ brings ! 1 2 _ (id⊢ 𝓤 _) $
-        asks ! 𝓣 known-flat ((tt, tt, tt, (r, tt), (w₅ ∷ [], tt)), tt) (λ s _. s ≡ flatEnd r) (λ s _. id⊢ 𝓤 _) (passing ! 6 refl (no-more !)) (λ w s _ e₀ is.
+        sets-result ! 6 refl (EL.lawful E.the-type E′.the-laws 𝓤 H A W tt .typed r _ is₅ .0) $ nothing ! $ nothing ! $ move ! (0 ∷ 6 ∷ 1 ∷ []) $ asks ! 𝓣 known-flat ((tt, tt, tt, (r, tt), (w₅ ∷ [], tt)), tt) (id⊢ 𝓤 _) refl (λ s _. s ≡ flatEnd r) (λ s _. id⊢ 𝓤 _) (passing ! 6 refl (no-more !)) (λ w s _ e₀ is.
         -- [true; the flat reply; nothing; the tokens; true; nothing; _5; …; _0; …]
         sets-result ! 18 refl (LL.lawful F.the-type F′.the-laws 𝓤 H A W .typed s _ is .0) $ returns ! (look ! 18 refl) $
         move ! (locals 8 6) $ let-go ! (held _ ∷ held _ ∷ held _ ∷ held _ ∷ held _ ∷ held _ ∷ []) refl $ keep ! (3 ∷ 4 ∷ 5 ∷ 6 ∷ 1 ∷ []) $ group ! 4 $

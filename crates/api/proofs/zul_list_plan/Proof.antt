@@ -6,7 +6,7 @@ use Rattle.plans.proofs.Walking.{look, stop, from, load, and-then, hop, fld, ad
 use Rattle.plans.proofs.Walking.{Lfts, Shares, Fun, factI, nothing, Args, Vals, Clauses, Meets, walkOf, finally, Memory, Routine, tablesOf, givenOf, tables}
 use Rattle.plans.proofs.Walking.{whole, sub, look-in, agg, entered, cited, RefT}
 use Rattle.plans.proofs.Locals.{span, locals, allocated, let-go, takes, passing, sets, sets-result, held}
-use Rattle.plans.proofs.Asking.{begins, spelling, Spelled, Known, brings, asks, ends, Walk, met-by}
+use Rattle.plans.proofs.Asking.{begins, spelling, Spelled, Known, asks, ends, Walk, met-by}
 use Rattle.plans.proofs.Lending.{Row, list-spells, list-tells, list-stay, list-go, list-had}
 use denote.Struct.Laws as LL
 use denote.Enum.Laws as EL
@@ -58,13 +58,12 @@ module _ {M : Type 1} (𝓤 : URA M) (H : Heap 𝓤) (A : Atoms 𝓤) (W : Given
         sets ! (agg ! (passing ! 2 refl (and-then ! (load ! (from ! (fld ! refl (stop !))) (look-in ! 6 (sub ! 1 refl (whole !)))) (no-more !)))) 0 refl
         (tt, (tt, (record { fits = are .1 .1 .1 .1 .0 .0 .1 .0 }, tt))) $
         -- [_8; …; _0; …; the four tokens; true; the times; the arrows; m; the order; the plan; true]: `list_plan`
-        move ! (span 18 11) $ brings ! 5 6 _ (id⊢ 𝓤 _) $ asks ! 𝓣 known-list ((κs, qs, tt, a, vs), tt) (λ r zs. Listed (zs .1 .1 .1 .1 .0) r) (λ r zs. id⊢ 𝓤 _)
+        move ! (span 18 11) $ asks ! 𝓣 known-list ((κs, qs, tt, a, vs), tt) (id⊢ 𝓤 _) refl (λ r zs. Listed (zs .1 .1 .1 .1 .0) r) (λ r zs. id⊢ 𝓤 _)
         (passing ! 15 refl (passing ! 13 refl (passing ! 11 refl (passing ! 9 refl (passing ! 1 refl (no-more !)))))) (λ w₆ r zs e is₆.
         -- [the tokens; true; the reply; the last values; _8; …; _0; …]
         move ! (6 ∷ []) $ fsplit ! $ drop ! $ fsplit ! $ drop ! $ fsplit ! $ drop ! $ fsplit ! $ drop ! $ fsplit ! $ fsplit ! $ move ! (1 ∷ []) $ feqL ! (λ same.
         -- [the last list; nothing; the tokens; true; the reply; _8; …; _0; …]: `flatten_end`
-        sets-result ! 12 refl (EL.lawful E.the-type E′.the-laws 𝓤 H A W tt .typed r _ is₆ .0) $ nothing ! $ nothing ! $ move ! (0 ∷ 9 ∷ 1 ∷ []) $ brings ! 1 2 _ (id⊢ 𝓤 _) $
-        asks ! 𝓣 known-flat ((tt, tt, tt, (r, tt), (w₆ ∷ [], tt)), tt) (λ s _. s ≡ flatEnd r) (λ s _. id⊢ 𝓤 _) (passing ! 12 refl (no-more !)) (λ w s _ e₀ is.
+        sets-result ! 12 refl (EL.lawful E.the-type E′.the-laws 𝓤 H A W tt .typed r _ is₆ .0) $ nothing ! $ nothing ! $ move ! (0 ∷ 9 ∷ 1 ∷ []) $ asks ! 𝓣 known-flat ((tt, tt, tt, (r, tt), (w₆ ∷ [], tt)), tt) (id⊢ 𝓤 _) refl (λ s _. s ≡ flatEnd r) (λ s _. id⊢ 𝓤 _) (passing ! 12 refl (no-more !)) (λ w s _ e₀ is.
         -- [true; the flat reply; nothing; the last list; nothing; the tokens; true; _8; …; _0; …]
         sets-result ! 26 refl (LL.lawful F.the-type F′.the-laws 𝓤 H A W .typed s _ is .0) $ returns ! (look ! 26 refl) $
         move ! (locals 10 9) $ let-go ! (held _ ∷ held _ ∷ held _ ∷ held _ ∷ held _ ∷ held _ ∷ held _ ∷ held _ ∷ held _ ∷ []) refl $ keep ! (5 ∷ 6 ∷ 7 ∷ 8 ∷ 9 ∷ 3 ∷ 1 ∷ []) $ group ! 5 $

@@ -6,7 +6,7 @@ use Rattle.plans.proofs.Walking.{_∵_, !, by, keep, group, look, stop,
 use Rattle.plans.proofs.Walking.{emp, id⊢, via, fst∗, Lfts, Shares, Fun, factI, nothing, Args, Vals, Clauses, Meets, walkOf, uint-lawful, Memory}
 use Rattle.plans.proofs.Walking.{Routine, tablesOf, givenOf, tables, whole, sub, look-in, entered, cited}
 use Rattle.plans.proofs.Locals.{locals, allocated, let-go, takes, passing, sets, sets-result, held}
-use Rattle.plans.proofs.Asking.{begins, spelling, Spelled, Known, brings, asks, dropped, dropped-go, ends-dropped, Walk, met-by}
+use Rattle.plans.proofs.Asking.{begins, spelling, Spelled, Known, asks, dropped, dropped-go, ends-dropped, Walk, met-by}
 use Rattle.plans.proofs.Lending.{has-word, has-table, table-typed, check-spells, check-tells}
 use denote.Enum.Laws as EL
 use Rattle.terms.specs.declared.Entry.{Entry}
@@ -72,23 +72,17 @@ module _ {M : Type 1} (𝓤 : URA M) (H : Heap 𝓤) (A : Atoms 𝓤) (W : Given
         takes ! 10 refl (tt, record { fits = are .1 .1 .0 .1 }) $ takes ! 8 refl (tt, (tt, (record { fits = are .1 .1 .1 .0 .0 .1 .0 }, tt))) $ pass0 ! $
         sets ! (of-opd ! (load ! (from ! (fld ! refl (stop !))) (look-in ! 8 (sub ! 1 refl (whole !))))) 6 refl (tt, record { fits = are .1 .1 .1 .0 .0 .1 .0 }) $
         -- [_8; …; _0; …; the three tokens; true; the times; the arrows; m; the plan; true]: `fit`
-        nothing ! $ has-word ! n (refl, are .1 .1 .1 .0 .0 .1 .0) $ nothing ! $ brings ! 1 2 _ (id⊢ 𝓤 _) $
-        asks ! 𝓣 known-fit ((tt, tt, tt, (n, tt), (vint w64 n ∷ [], tt)), tt) (λ k _. Fitted k) (λ k _. id⊢ 𝓤 _)
+        nothing ! $ has-word ! n (refl, are .1 .1 .1 .0 .0 .1 .0) $ nothing ! $ asks ! 𝓣 known-fit ((tt, tt, tt, (n, tt), (vint w64 n ∷ [], tt)), tt) (id⊢ 𝓤 _) refl (λ k _. Fitted k) (λ k _. id⊢ 𝓤 _)
         (passing ! 7 refl (no-more !)) (λ w₇ k _ h is₇. drop ! $ drop ! $ drop ! $ sets-result ! 2 refl (uint-lawful 𝓤 H A W w64 .typed k _ is₇ .0) $
         -- `blank`
-        nothing ! $ nothing ! $ brings ! 1 1 _ (id⊢ 𝓤 _) $
-        asks ! 𝓣 known-blank ((tt, tt, tt, tt, tt), tt) (λ t _. Unit {0}) (λ t _. factI 𝓤 (Unit {0}) _ tt)
+        nothing ! $ nothing ! $ asks ! 𝓣 known-blank ((tt, tt, tt, tt, tt), tt) (id⊢ 𝓤 _) refl (λ t _. Unit {0}) (λ t _. factI 𝓤 (Unit {0}) _ tt)
         (no-more !) (λ w₈ t _ _ is₈. drop ! $ drop ! $ drop ! $ sets-result ! 0 refl (table-typed 𝓤 H A W t w₈ is₈) $
         -- `copy_in`
         nothing ! $ has-table ! t is₈ $ has-word ! k is₇ $
-        move ! (23 ∷ 24 ∷ 28 ∷ 0 ∷ 1 ∷ 2 ∷ []) $ brings ! 2 4 _ (factI 𝓤 _ (emp 𝓤) (h .0, h .1)) $
-        asks ! 𝓣 known-in
-        (((κs .1 .1 .0, tt), (qs .1 .1 .0, tt), tt, (a .1 .1 .1 .0, (k, (t, tt))), (vs .1 .1 .1 .0, (w₇ ∷ [], (w₈ ∷ [], tt)))), tt) (λ u _. u ≡ over k plan t) (λ u _. id⊢ 𝓤 _)
+        move ! (23 ∷ 24 ∷ 28 ∷ 0 ∷ 1 ∷ 2 ∷ []) $ asks ! 𝓣 known-in (((κs .1 .1 .0, tt), (qs .1 .1 .0, tt), tt, (a .1 .1 .1 .0, (k, (t, tt))), (vs .1 .1 .1 .0, (w₇ ∷ [], (w₈ ∷ [], tt)))), tt) (factI 𝓤 _ (emp 𝓤) (h .0, h .1)) refl (λ u _. u ≡ over k plan t) (λ u _. id⊢ 𝓤 _)
         (passing ! 9 refl (passing ! 3 refl (passing ! 1 refl (no-more !)))) (λ w₆ u _ e is₆. sets-result ! 8 refl (table-typed 𝓤 H A W u w₆ is₆) $
         -- [the third token; true; what the table owns; nothing; _8; …; _0; …; the first two tokens; the times; the arrows; m; true]: `check_table`
-        has-word ! n (refl, are .1 .1 .1 .0 .0 .1 .0) $ move ! (23 ∷ 24 ∷ 2 ∷ 25 ∷ 26 ∷ 27 ∷ 3 ∷ 0 ∷ 28 ∷ []) $ brings ! 3 6 _ (id⊢ 𝓤 _) $
-        asks ! 𝓣 known-check
-        (((κs .0, (κs .1 .0, tt)), (qs .0, (qs .1 .0, tt)), tt, (a .0, (a .1 .0, (m, (u, (n, tt))))), (vs .0, (vs .1 .0, (vs .1 .1 .0, (w₆ ∷ [], (vint w64 n ∷ [], tt)))))), tt)
+        has-word ! n (refl, are .1 .1 .1 .0 .0 .1 .0) $ move ! (23 ∷ 24 ∷ 2 ∷ 25 ∷ 26 ∷ 27 ∷ 3 ∷ 0 ∷ 28 ∷ []) $ asks ! 𝓣 known-check (((κs .0, (κs .1 .0, tt)), (qs .0, (qs .1 .0, tt)), tt, (a .0, (a .1 .0, (m, (u, (n, tt))))), (vs .0, (vs .1 .0, (vs .1 .1 .0, (w₆ ∷ [], (vint w64 n ∷ [], tt)))))), tt) (id⊢ 𝓤 _) refl
         (λ r _. ChecksTable times arrows m u n r) (λ r _. id⊢ 𝓤 _)
         (passing ! 17 refl (passing ! 15 refl (passing ! 13 refl (passing ! 7 refl (passing ! 9 refl (no-more !)))))) (λ w r _ e₀ is.
         -- [two tokens; true; the reply; nothing; the third token; nothing; _8; …; _0; …]

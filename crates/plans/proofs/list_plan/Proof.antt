@@ -6,7 +6,7 @@ use Rattle.plans.proofs.Walking.{from, load, and-then, hop, fld, addr, 
 use Rattle.plans.proofs.Walking.{via, fst∗, Lfts, Shares, Fun, factI, Is, nothing, owned, only, Args, Vals, Clauses, Meets, walkOf, nothing-lawful}
 use Rattle.plans.proofs.Walking.{finally, Memory, Routine, tablesOf, givenOf, tables, whole, sub, look-in, agg, entered, cited, shadow}
 use Rattle.plans.proofs.Locals.{locals, allocated, let-go, takes, passing, sets, sets-result, held}
-use Rattle.plans.proofs.Asking.{begins, spelling, Spelled, Known, brings, asks, ends, Walk, met-by}
+use Rattle.plans.proofs.Asking.{begins, spelling, Spelled, Known, asks, ends, Walk, met-by}
 use Rattle.plans.proofs.Lending.{Row, Table, has-word, has-table, list-spells, list-tells, list-stay, list-go, list-had}
 use denote.Struct.Laws as LL
 use denote.Enum.Laws as EL
@@ -90,8 +90,7 @@ module _ {M : Type 1} (𝓤 : URA M) (H : Heap 𝓤) (A : Atoms 𝓤) (W : Given
         sets ! (of-opd ! (load ! (from ! (fld ! refl (stop !))) (look-in ! 10 (sub ! 1 refl (whole !))))) 8 refl (tt, record { fits = room }) $
         -- [_10; …; _0; …; the four tokens; true; the times; the arrows; m; the order; the plan; true]: `draft_plan`
         nothing ! $ has-word ! n (refl, room) $
-        move ! (24 ∷ 25 ∷ 26 ∷ 28 ∷ 29 ∷ 30 ∷ 31 ∷ 32 ∷ 0 ∷ 1 ∷ []) $ brings ! 4 6 _ (id⊢ 𝓤 _) $
-        asks ! 𝓣 known-decide (
+        move ! (24 ∷ 25 ∷ 26 ∷ 28 ∷ 29 ∷ 30 ∷ 31 ∷ 32 ∷ 0 ∷ 1 ∷ []) $ asks ! 𝓣 known-decide (
           (
             (κs .0, (κs .1 .0, (κs .1 .1 .0, tt))),
             (qs .0, (qs .1 .0, (qs .1 .1 .0, tt))),
@@ -100,7 +99,7 @@ module _ {M : Type 1} (𝓤 : URA M) (H : Heap 𝓤) (A : Atoms 𝓤) (W : Given
             (vs .0, (vs .1 .0, (vs .1 .1 .0, (vs .1 .1 .1 .0, (vint w64 n ∷ [], tt))))),
           ),
           tt,
-        ) (λ d _. IsDraft times arrows m order n d) (λ d _. id⊢ 𝓤 _)
+        ) (id⊢ 𝓤 _) refl (λ d _. IsDraft times arrows m order n d) (λ d _. id⊢ 𝓤 _)
         (passing ! 19 refl (passing ! 17 refl (passing ! 15 refl (passing ! 13 refl (passing ! 9 refl (no-more !)))))) (λ w₆ d _ h is.
         -- [three tokens; true; the draft; nothing; _10; …; _0; …; the fourth token; the plan; true]: the draft's machine value is spelled out, so that its fields can be read
         sets-result ! 12 refl (LL.lawful D.the-type D′.the-laws 𝓤 H A W .typed d _ is .0) $
@@ -110,9 +109,7 @@ module _ {M : Type 1} (𝓤 : URA M) (H : Heap 𝓤) (A : Atoms 𝓤) (W : Given
         -- `copy_out`
         nothing ! $ has-word ! (d .n) (LL.owed D.the-type D′.the-laws d _ is .1 .1 .0) $
         has-table ! (d .entries) (table-is d _ is) $ move ! (31 ∷ 33 ∷ 32 ∷ 0 ∷ 1 ∷ 2 ∷ []) $
-        brings ! 2 4 _ (factI 𝓤 _ (emp 𝓤) (fits times arrows m order n (d .entries) (d .n) (d .reply) (h .drafted))) $
-        asks ! 𝓣 known-out
-        (((κs .1 .1 .1 .0, tt), (qs .1 .1 .1 .0, tt), tt, (a .1 .1 .1 .1 .0, (d .entries, (d .n, tt))), (vs .1 .1 .1 .1 .0, (tv d ∷ [], (vint w64 (d .n) ∷ [], tt)))), tt)
+        asks ! 𝓣 known-out (((κs .1 .1 .1 .0, tt), (qs .1 .1 .1 .0, tt), tt, (a .1 .1 .1 .1 .0, (d .entries, (d .n, tt))), (vs .1 .1 .1 .1 .0, (tv d ∷ [], (vint w64 (d .n) ∷ [], tt)))), tt) (factI 𝓤 _ (emp 𝓤) (fits times arrows m order n (d .entries) (d .n) (d .reply) (h .drafted))) refl
         (λ u zs. zs .0 ≡ over (d .n) (d .entries) plan) (λ u zs. id⊢ 𝓤 _)
         (passing ! 7 refl (and-then ! (load ! (from ! (fld ! refl (stop !))) (look-in ! 13 (sub ! 1 refl (whole !))))
         (and-then ! (load ! (from ! (fld ! refl (stop !))) (look-in ! 13 (sub ! 2 refl (whole !)))) (no-more !)))) (λ w₇ u zs e is₇.
