@@ -2,13 +2,13 @@
 -- what it promises is learned, and what the caller must have at its end is put together.
 -- It says nothing of the crate, and can be copied as it stands. Assumes `Given`.
 use Rattle.plans.proofs.Walking.{_≡_, sym, subst, ℕ, zero, suc, List, [], _∷_, _++_, URA, Operand, Body, seq, Name, Place, call, Fn, Val, Fml, ftrue}
-use Rattle.plans.proofs.Walking.{flft, WpFn, Heap, Env, Calls, Tables, Atoms, sem, Goal, Given, Item, ‵, Seq, _$_, move, use1, Post, runs, lands, raw}
-use Rattle.plans.proofs.Walking.{some, later, _⊛_, ⋆, pop, push, ++⊢, ⊢++, prop, Sq, _∵_, !, qed, by, cut, split, pick, await, Opds, RattleType}
-use Rattle.plans.proofs.Walking.{Denots, Valss, owns, T, SProp, ent, sep, emp, id⊢, via, comm∗, assoc′, mono∗, monoL, monoR, emp∗, Lfts, Shares}
-use Rattle.plans.proofs.Walking.{AllOutlive, toks, fact, Fun, WpFn-mono, fmOf, Is, Ises, Are, Spells, Tellss, valss, shows, heard, peeks, nothing}
-use Rattle.plans.proofs.Walking.{Slot, Signature, typeAt, typesAt, Args, Vals, Res, alive, onEntry, calls-at, Ended, Clauses, Lasts, atExit, lasts}
-use Rattle.plans.proofs.Walking.{closing, Kepts, Fins, Meets, tripleOf, Contract, Triple, Stays, stay-dropped, Silent, AllGo, goes-dropped, hasOf, Fit}
-use Rattle.plans.proofs.Walking.{walkOf, Ending, ends-at, walked, walk-meets}
+use Rattle.plans.proofs.Walking.{flft, WpFn, Heap, Env, Calls, Tables, Atoms, sem, Given, Item, ‵, Seq, _$_, move, use1, Post, runs, lands, raw, some}
+use Rattle.plans.proofs.Walking.{later, _⊛_, ⋆, pop, push, ++⊢, ⊢++, prop, Sq, _∵_, !, qed, by, cut, split, pick, await, Opds, RattleType, Denots}
+use Rattle.plans.proofs.Walking.{Valss, owns, T, SProp, ent, sep, emp, id⊢, via, comm∗, assoc′, mono∗, monoL, monoR, emp∗, Lfts, Shares, AllOutlive}
+use Rattle.plans.proofs.Walking.{toks, fact, Fun, WpFn-mono, fmOf, Is, Ises, Are, Spells, Tellss, valss, shows, heard, peeks, nothing, Slot, Signature}
+use Rattle.plans.proofs.Walking.{typeAt, typesAt, Args, Vals, Res, alive, onEntry, calls-at, Ended, Clauses, Lasts, atExit, lasts, closing, Kepts}
+use Rattle.plans.proofs.Walking.{Fins, Meets, tripleOf, Contract, Triple, Stays, stay-dropped, Silent, AllGo, goes-dropped, hasOf, Fit, walkOf, Ending}
+use Rattle.plans.proofs.Walking.{ends-at, walked, walk-meets}
 
 module _ {M : Type 1} {𝓤 : URA M} where
   -- an entry for each token, and one for what each parameter owns
@@ -24,33 +24,24 @@ module _ {M : Type 1} (𝓤 : URA M) (H : Heap 𝓤) (A : Atoms 𝓤) where
   with-nothing : (P R : SProp 𝓤) → ent 𝓤 (emp 𝓤) R → ent 𝓤 P (sep 𝓤 P R)
   with-nothing P R h = via 𝓤 (sep 𝓤 (emp 𝓤) P) (emp∗ 𝓤 P) (via 𝓤 (sep 𝓤 R P) (monoL 𝓤 P h) (comm∗ 𝓤 R P))
 
-  each-token : (n : ℕ) (κs : Lfts n) (qs : Shares n) → ent 𝓤 (toks 𝓤 A n κs qs) (⋆ 𝓤 H A (tokens n κs qs))
-  each-token zero κs qs = id⊢ 𝓤 (emp 𝓤)
+  each-token : (n : ℕ) (κs : Lfts n) (qs : Shares n) → ent 𝓤 (toks 𝓤 A n κs qs) (⋆ 𝓤 H A (tokens n κs qs)) × ent 𝓤 (⋆ 𝓤 H A (tokens n κs qs)) (toks 𝓤 A n κs qs)
+  each-token zero κs qs = (id⊢ 𝓤 (emp 𝓤), id⊢ 𝓤 (emp 𝓤))
   each-token (suc n) κs qs =
-      let X : SProp 𝓤 = A .lft (κs .0) (qs .0) in
+      let X : Fml = flft (κs .0) (qs .0) in
       let Δ : List (Item 𝓤) = tokens n (κs .1) (qs .1) in
-      via 𝓤 (sep 𝓤 X (⋆ 𝓤 H A Δ)) (monoR 𝓤 X (each-token n (κs .1) (qs .1))) (push 𝓤 H A (‵ (flft (κs .0) (qs .0))) Δ)
+      let P : SProp 𝓤 = sep 𝓤 (sem 𝓤 H A X) (⋆ 𝓤 H A Δ) in
+      let h = each-token n (κs .1) (qs .1) in
+      (via 𝓤 P (monoR 𝓤 (sem 𝓤 H A X) (h .0)) (push 𝓤 H A (‵ X) Δ), via 𝓤 P (pop 𝓤 H A (‵ X) Δ) (monoR 𝓤 (sem 𝓤 H A X) (h .1)))
 
-  each-owned : (Rs : List RattleType) (a : Denots Rs) (vss : Valss Rs) → ent 𝓤 (sem 𝓤 H A (owns Rs a vss)) (⋆ 𝓤 H A (owned-by Rs a vss))
-  each-owned [] a vss = id⊢ 𝓤 (emp 𝓤)
+  each-owned : (Rs : List RattleType) (a : Denots Rs) (vss : Valss Rs)
+      → ent 𝓤 (sem 𝓤 H A (owns Rs a vss)) (⋆ 𝓤 H A (owned-by Rs a vss)) × ent 𝓤 (⋆ 𝓤 H A (owned-by Rs a vss)) (sem 𝓤 H A (owns Rs a vss))
+  each-owned [] a vss = (id⊢ 𝓤 (emp 𝓤), id⊢ 𝓤 (emp 𝓤))
   each-owned (R ∷ Rs) a vss =
       let X : Fml = R .own (a .0) (vss .0) in
       let Θ : List (Item 𝓤) = owned-by Rs (a .1) (vss .1) in
-      via 𝓤 (sep 𝓤 (sem 𝓤 H A X) (⋆ 𝓤 H A Θ)) (monoR 𝓤 (sem 𝓤 H A X) (each-owned Rs (a .1) (vss .1))) (push 𝓤 H A (‵ X) Θ)
-
-  all-tokens : (n : ℕ) (κs : Lfts n) (qs : Shares n) → ent 𝓤 (⋆ 𝓤 H A (tokens n κs qs)) (toks 𝓤 A n κs qs)
-  all-tokens zero κs qs = id⊢ 𝓤 (emp 𝓤)
-  all-tokens (suc n) κs qs =
-      let X : SProp 𝓤 = A .lft (κs .0) (qs .0) in
-      let Δ : List (Item 𝓤) = tokens n (κs .1) (qs .1) in
-      via 𝓤 (sep 𝓤 X (⋆ 𝓤 H A Δ)) (pop 𝓤 H A (‵ (flft (κs .0) (qs .0))) Δ) (monoR 𝓤 X (all-tokens n (κs .1) (qs .1)))
-
-  all-owned : (Rs : List RattleType) (a : Denots Rs) (vss : Valss Rs) → ent 𝓤 (⋆ 𝓤 H A (owned-by Rs a vss)) (sem 𝓤 H A (owns Rs a vss))
-  all-owned [] a vss = id⊢ 𝓤 (emp 𝓤)
-  all-owned (R ∷ Rs) a vss =
-      let X : Fml = R .own (a .0) (vss .0) in
-      let Θ : List (Item 𝓤) = owned-by Rs (a .1) (vss .1) in
-      via 𝓤 (sep 𝓤 (sem 𝓤 H A X) (⋆ 𝓤 H A Θ)) (pop 𝓤 H A (‵ X) Θ) (monoR 𝓤 (sem 𝓤 H A X) (all-owned Rs (a .1) (vss .1)))
+      let P : SProp 𝓤 = sep 𝓤 (sem 𝓤 H A X) (⋆ 𝓤 H A Θ) in
+      let h = each-owned Rs (a .1) (vss .1) in
+      (via 𝓤 P (monoR 𝓤 (sem 𝓤 H A X) (h .0)) (push 𝓤 H A (‵ X) Θ), via 𝓤 P (pop 𝓤 H A (‵ X) Θ) (monoR 𝓤 (sem 𝓤 H A X) (h .1)))
 
   -- what a callee asks: its tokens, what its parameters own, and R, which is had for nothing
   brought : (n : ℕ) (κs : Lfts n) (qs : Shares n) (Rs : List RattleType) (a : Denots Rs) (vss : Valss Rs) (Γ : List (Item 𝓤)) (R : SProp 𝓤) → ent 𝓤 (emp 𝓤) R
@@ -62,7 +53,7 @@ module _ {M : Type 1} (𝓤 : URA M) (H : Heap 𝓤) (A : Atoms 𝓤) where
       let Q : SProp 𝓤 = sem 𝓤 H A (owns Rs a vss) in
       let X : SProp 𝓤 = ⋆ 𝓤 H A Γ in
       via 𝓤 (sep 𝓤 (⋆ 𝓤 H A Δ) (⋆ 𝓤 H A (Θ ++ Γ))) (⊢++ 𝓤 H A Δ (Θ ++ Γ))
-      (via 𝓤 (sep 𝓤 P (sep 𝓤 Q X)) (mono∗ 𝓤 (all-tokens n κs qs) (via 𝓤 (sep 𝓤 (⋆ 𝓤 H A Θ) X) (⊢++ 𝓤 H A Θ Γ) (monoL 𝓤 X (all-owned Rs a vss))))
+      (via 𝓤 (sep 𝓤 P (sep 𝓤 Q X)) (mono∗ 𝓤 (each-token n κs qs .1) (via 𝓤 (sep 𝓤 (⋆ 𝓤 H A Θ) X) (⊢++ 𝓤 H A Θ Γ) (monoL 𝓤 X (each-owned Rs a vss .1))))
       (via 𝓤 (sep 𝓤 (sep 𝓤 P Q) X) (assoc′ 𝓤 P Q X)
       (via 𝓤 (sep 𝓤 (sep 𝓤 (sep 𝓤 P Q) R) X) (monoL 𝓤 X (with-nothing (sep 𝓤 P Q) R h)) (push 𝓤 H A (raw (sep 𝓤 (sep 𝓤 P Q) R)) Γ))))
 
@@ -72,7 +63,7 @@ module _ {M : Type 1} (𝓤 : URA M) (H : Heap 𝓤) (A : Atoms 𝓤) where
   begins W S κs qs a vss s =
       let Δ : List (Item 𝓤) = tokens (S .lifetimes) κs qs in
       let Θ : List (Item 𝓤) = owned-by (typesAt (S .params) κs) a vss in
-      via 𝓤 (sep 𝓤 (⋆ 𝓤 H A Δ) (⋆ 𝓤 H A Θ)) (mono∗ 𝓤 (each-token (S .lifetimes) κs qs) (each-owned (typesAt (S .params) κs) a vss))
+      via 𝓤 (sep 𝓤 (⋆ 𝓤 H A Δ) (⋆ 𝓤 H A Θ)) (mono∗ 𝓤 (each-token (S .lifetimes) κs qs .0) (each-owned (typesAt (S .params) κs) a vss .0))
       (via 𝓤 (⋆ 𝓤 H A (Δ ++ Θ)) (++⊢ 𝓤 H A Δ Θ) (s .prf))
 
 -- of a function with its contract: how many lifetimes there are, the types of its parameters and of its result, the contract as a triple, and what it promises
@@ -105,36 +96,35 @@ module _ {M : Type 1} (𝓤 : URA M) (H : Heap 𝓤) (A : Atoms 𝓤) (T : Ended
 pub record Known {M : Type 1} (𝓤 : URA M) (H : Heap 𝓤) (A : Atoms 𝓤) (C : Calls 𝓤 H) (f : Name) (T : Ended) (c : Clauses 𝓤 T) : Type 1 where
   pub met : Triple 𝓤 (C f) (Asked 𝓤 H A T c)
 
--- the whole context replaced by what it entails
-whole : {M : Type 1} {𝓤 : URA M} {H : Heap 𝓤} {A : Atoms 𝓤} {K : Type 0} {W : Given 𝓤 H A} {Γ Δ : List (Item 𝓤)} {G : Goal 𝓤 H} → ent 𝓤 (⋆ 𝓤 H A Δ) (⋆ 𝓤 H A Γ) → Seq K W Γ G → Seq K W Δ G
-whole {𝓤 = 𝓤} {H = H} {A = A} {Γ = Γ} h s = record { prf = via 𝓤 (⋆ 𝓤 H A Γ) h (s .prf) }
-
 -- The call: y is what the callee's triple binds outside, and Said is what it promises of the result r and of the last values ws.
 -- The context Δ begins with the callee's tokens and with what its parameters own.
-module _ {M : Type 1} {𝓤 : URA M} {H : Heap 𝓤} {A : Atoms 𝓤} {K : Type 0} {W : Given 𝓤 H A} {Γ Δ : List (Item 𝓤)} where
-  module _ {E : Env 𝓤 H} {q : Post 𝓤 H} {f : Name} {xs : List Operand} {d : Place} {b : Body} where
-    pub asks : K → (𝓣 : Tables 𝓤 H) {T : Ended} {c : Clauses 𝓤 T} → Known 𝓤 H A (𝓣 .C) f T c
-        → (y : Asked 𝓤 H A T c .Ghost) → ent 𝓤 (emp 𝓤) (c (y .0 .0) (y .0 .3) .requires (y .1))
-        → Δ ≡ tokens (lives T) (y .0 .0) (y .0 .1) ++ (owned-by (Types T (y .0 .0)) (y .0 .3) (y .0 .4) ++ Γ)
-        → (Said : Res (T .signature) (y .0 .0) → Lasts T (y .0 .0) (y .0 .3) → Type 0)
-        → ((r : Res (T .signature) (y .0 .0)) (ws : Lasts T (y .0 .0) (y .0 .3)) → ent 𝓤 (Promised 𝓤 H A T c y r ws) (fact 𝓤 (Said r ws)))
-        → Opds K W (raw (Asked 𝓤 H A T c .pre y) ∷ Γ) E xs (Asked 𝓤 H A T c .args y)
-        → ((w : Val) (r : Res (T .signature) (y .0 .0)) (ws : Lasts T (y .0 .0) (y .0 .3)) → Said r ws → Is (Result T (y .0 .0)) r (w ∷ [])
-        → Seq K W (tokens (lives T) (y .0 .0) (y .0 .1) ++ ‵ (Result T (y .0 .0) .own r (w ∷ [])) ∷ ‵ (lasts T (y .0 .0) (y .0 .3) ws) ∷ Γ)
-        (lands (𝓣 .C) (𝓣 .Λ) E d w b q)) → Seq K W Δ (runs (𝓣 .C) (𝓣 .Λ) E (seq (call f xs d) b) q)
-    asks t 𝓣 {T} {c} known y asked begin Said says os k =
-        let begun : ent 𝓤 (⋆ 𝓤 H A Δ) (⋆ 𝓤 H A (raw (Asked 𝓤 H A T c .pre y) ∷ Γ)) = subst (λ (Ξ : List (Item 𝓤)). ent 𝓤 (⋆ 𝓤 H A Ξ) (⋆ 𝓤 H A (raw (Asked 𝓤 H A T c .pre y) ∷ Γ))) (sym begin)
-            (brought 𝓤 H A (lives T) (y .0 .0) (y .0 .1) (Types T (y .0 .0)) (y .0 .3) (y .0 .4) Γ (c (y .0 .0) (y .0 .3) .requires (y .1)) asked) in
-        let R : RattleType = Result T (y .0 .0) in
-        let live : Item 𝓤 = raw (alive 𝓤 H A (T .signature) (y .0 .0) (y .0 .1)) in
-        let Back : Res (T .signature) (y .0 .0) → Lasts T (y .0 .0) (y .0 .3) → Item 𝓤 = λ r ws. ‵ (lasts T (y .0 .0) (y .0 .3) ws) ⊛ raw (Promised 𝓤 H A T c y r ws) in
-        whole begun (calls-at t (fmOf 𝓤 H (W .laws) 𝓣) (Asked 𝓤 H A T c) (known .met) y os (λ w.
-        use1 W (later (some (λ (r : Res (T .signature) (y .0 .0)). (live ⊛ ‵ (R .own r (w ∷ []))) ⊛ some (Back r)))) (id⊢ 𝓤 _) $ await t tt $
-        pick t (λ r. split t $ move t (1 ∷ []) $ pick t (λ ws. split t $ move t (1 ∷ []) $
-        use1 W (raw (fact 𝓤 (Said r ws))) (says r ws) $ heard t (Said r ws) (λ h.
-        -- [the last values; the tokens and the result]
-        move t (1 ∷ []) $ split t $ move t (1 ∷ []) $ peeks t R (Is R) (shows 𝓤 H A R) r (w ∷ []) (λ is. move t (1 ∷ []) $
-        cut (live ∷ []) (tokens (lives T) (y .0 .0) (y .0 .1)) _ (each-token 𝓤 H A (lives T) (y .0 .0) (y .0 .1)) $ k w r ws h is))))))
+module _ {M : Type 1} {𝓤 : URA M} {H : Heap 𝓤} {A : Atoms 𝓤} {K : Type 0} {W : Given 𝓤 H A} {Γ Δ : List (Item 𝓤)}
+    {E : Env 𝓤 H} {q : Post 𝓤 H} {f : Name} {xs : List Operand} {d : Place} {b : Body} where
+  pub asks : K → (𝓣 : Tables 𝓤 H) {T : Ended} {c : Clauses 𝓤 T} → Known 𝓤 H A (𝓣 .C) f T c
+      → (y : Asked 𝓤 H A T c .Ghost) → ent 𝓤 (emp 𝓤) (c (y .0 .0) (y .0 .3) .requires (y .1))
+      → Δ ≡ tokens (lives T) (y .0 .0) (y .0 .1) ++ (owned-by (Types T (y .0 .0)) (y .0 .3) (y .0 .4) ++ Γ)
+      → (Said : Res (T .signature) (y .0 .0) → Lasts T (y .0 .0) (y .0 .3) → Type 0)
+      → ((r : Res (T .signature) (y .0 .0)) (ws : Lasts T (y .0 .0) (y .0 .3)) → ent 𝓤 (Promised 𝓤 H A T c y r ws) (fact 𝓤 (Said r ws)))
+      → Opds K W (raw (Asked 𝓤 H A T c .pre y) ∷ Γ) E xs (Asked 𝓤 H A T c .args y)
+      → ((w : Val) (r : Res (T .signature) (y .0 .0)) (ws : Lasts T (y .0 .0) (y .0 .3)) → Said r ws → Is (Result T (y .0 .0)) r (w ∷ [])
+      → Seq K W (tokens (lives T) (y .0 .0) (y .0 .1) ++ ‵ (Result T (y .0 .0) .own r (w ∷ [])) ∷ ‵ (lasts T (y .0 .0) (y .0 .3) ws) ∷ Γ)
+      (lands (𝓣 .C) (𝓣 .Λ) E d w b q)) → Seq K W Δ (runs (𝓣 .C) (𝓣 .Λ) E (seq (call f xs d) b) q)
+  asks t 𝓣 {T} {c} known y asked begin Said says os k =
+      let R : RattleType = Result T (y .0 .0) in
+      let live : Item 𝓤 = raw (alive 𝓤 H A (T .signature) (y .0 .0) (y .0 .1)) in
+      let Γ′ : List (Item 𝓤) = raw (Asked 𝓤 H A T c .pre y) ∷ Γ in
+      let Back : Res (T .signature) (y .0 .0) → Lasts T (y .0 .0) (y .0 .3) → Item 𝓤 = λ r ws.
+          ‵ (lasts T (y .0 .0) (y .0 .3) ws) ⊛ raw (Promised 𝓤 H A T c y r ws) in
+      let called : Seq K W Γ′ (runs (𝓣 .C) (𝓣 .Λ) E (seq (call f xs d) b) q) =
+          calls-at t (fmOf 𝓤 H (W .laws) 𝓣) (Asked 𝓤 H A T c) (known .met) y os (λ w.
+          use1 W (later (some (λ (r : Res (T .signature) (y .0 .0)). (live ⊛ ‵ (R .own r (w ∷ []))) ⊛ some (Back r)))) (id⊢ 𝓤 _) $ await t tt $
+          pick t (λ r. split t $ move t (1 ∷ []) $ pick t (λ ws. split t $ move t (1 ∷ []) $
+          use1 W (raw (fact 𝓤 (Said r ws))) (says r ws) $ heard t (Said r ws) (λ h.
+          -- [the last values; the tokens and the result]
+          move t (1 ∷ []) $ split t $ move t (1 ∷ []) $ peeks t R (Is R) (shows 𝓤 H A R) r (w ∷ []) (λ is. move t (1 ∷ []) $
+          cut (live ∷ []) (tokens (lives T) (y .0 .0) (y .0 .1)) _ (each-token 𝓤 H A (lives T) (y .0 .0) (y .0 .1) .0) $ k w r ws h is))))) in
+      by t (via 𝓤 (⋆ 𝓤 H A Γ′) (subst (λ (Ξ : List (Item 𝓤)). ent 𝓤 (⋆ 𝓤 H A Ξ) (⋆ 𝓤 H A Γ′)) (sym begin)
+      (brought 𝓤 H A (lives T) (y .0 .0) (y .0 .1) (Types T (y .0 .0)) (y .0 .3) (y .0 .4) Γ (c (y .0 .0) (y .0 .3) .requires (y .1)) asked)) (called .prf))
 
 -- the parameters of which nothing is had at the end, since nothing is said of them there
 abbrev none-stay : {n : ℕ} (ss : List (Slot n)) (ks : Kepts ss) → Stays ss ks
