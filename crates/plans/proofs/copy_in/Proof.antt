@@ -1,13 +1,14 @@
 -- `plans::copy_in` meets its contract: a walk of its MIR, by hand, with a loop.
--- The table's cell is taken apart into its row once, before the loop. In each turn the plan is looked into, element i of it is read, and element i of the table's row is written. After the loop the table is put together again and returned.
+-- The table's cell is taken apart into its row once, before the loop. In each turn the plan is looked into, element i of it is read,
+-- and element i of the table's row is written. After the loop the table is put together again and returned.
 -- Assumes nothing.
 use Rattle.plans.proofs.Walking.{_≡_, refl, sym, _∙_, ℕ, _+_, _<_, _≤_, _*_, _^_, zero-le, List, [], _∷_, _++_, length, take, drop-list, URA}
 use Rattle.plans.proofs.Walking.{fullShare, tyArray, Ty, named, w64, tyBool, tyPtr, Val, hasTy, WT, vbool, vint, vptr, fat, fdies, flft, fshr-bor}
-use Rattle.plans.proofs.Walking.{WpFn, afterTurn, Heap, Env, Tables, Atoms, Given, Item, ‵, _$_, move, drop, rewrite, fsplit, runs, Sq, _∵_, !, by}
-use Rattle.plans.proofs.Walking.{anyQ, atRet, keep, group, forget, look, stop, from, load, assigns, look-raw, store, store-raw, hop, fld, lit, addr}
-use Rattle.plans.proofs.Walking.{of-opd, bin, assigns-last, first, blocks, stays, leaves-loop, returns, enter, params1, pass0, exec, again, loops}
-use Rattle.plans.proofs.Walking.{arr-parts, shares, mem, row, place-is, looks-slice, shuts-slice, T, ltb, lit<, SProp, emp, Lfts, Shares, Fun, factI}
-use Rattle.plans.proofs.Walking.{Is, Spells, shows, peeks, nothing, only, typesAt, Args, Meets, walkOf, needs, uint-vals, uint-tells, slice-vals}
+use Rattle.plans.proofs.Walking.{WpFn, afterTurn, Heap, Env, Tables, Atoms, Given, Item, ‵, _$_, move, drop, rewrite, fsplit, Sq, _∵_, !, by, atRet}
+use Rattle.plans.proofs.Walking.{keep, group, forget, look, stop, from, load, assigns, look-raw, store, store-raw, hop, fld, lit, addr, of-opd, bin}
+use Rattle.plans.proofs.Walking.{assigns-last, first, blocks, stays, leaves-loop, returns, enter, params1, pass0, exec, again, loops, arr-parts}
+use Rattle.plans.proofs.Walking.{shares, mem, row, place-is, looks-slice, shuts-slice, T, ltb, lit<, SProp, emp, Lfts, Shares, Fun, factI, Is, Spells}
+use Rattle.plans.proofs.Walking.{shows, peeks, nothing, only, typesAt, Args, Clauses, Meets, walkOf, needs, uint-vals, uint-tells, slice-vals}
 use Rattle.plans.proofs.Walking.{shr-slice-tells, sliceVal, arith, Bool, true, false, Memory, Routine, tablesOf, givenOf, tables, whole, sub, look-in}
 use Rattle.plans.proofs.Walking.{ltb-true, ltb-false, entered}
 use Rattle.plans.proofs.Local.{array-opens, array-closes}
@@ -16,7 +17,7 @@ use Rattle.plans.proofs.Asking.{begins, spelling, Spelled, dropped, dro
 use Rattle.plans.proofs.Lending.{Row, Table, table-vals, table-tells, table-typed}
 use Rattle.plans.proofs.Over.{over-length}
 use Rattle.plans.proofs.Upto.{Upto, Nearer, nearer-ends}
-use Rattle.plans.proofs.Copying.{at, entry-typed, Turn, turn, Turned, entry-out, entry-back, entry-copied}
+use Rattle.plans.proofs.Copying.{at, entry-typed, Turn, turn, Turns, entry-out, entry-back, entry-copied}
 use denote.Struct.Laws as LL
 use Rattle.terms.specs.declared.Entry.{Entry}
 use Rattle.plans.specs.Copies.{over}
@@ -35,7 +36,10 @@ table = tyArray T′.mir 256
 abbrev copy-spells : (κs : Lfts 1) → Spells (typesAt (f.signature .params) κs)
 copy-spells κs = (slice-vals, (uint-vals w64, (table-vals, tt)))
 
-module _ {M : Type 1} (𝓤 : URA M) (H : Heap 𝓤) (A : Atoms 𝓤) (W : Given 𝓤 H A) (mem : Memory → SProp 𝓤) (run : Routine → Fun 𝓤) where
+module _ {M : Type 1} (𝓤 : URA M) (H : Heap 𝓤) (A : Atoms 𝓤) (W : Given 𝓤 H A) (mem : Memory → SProp 𝓤) (run : Routine → Fun 𝓤) (𝓣 : Tables 𝓤 H) where
+  abbrev promised : Clauses 𝓤 f.ended
+  promised = f.clauses 𝓤 H A mem run
+
   module _ (κs : Lfts 1) (qs : Shares 1) (a : Args f.signature κs) (are : Spelled f.ended copy-spells κs a)
       (fits : (a .1 .0 ≤ length (a .0 .now)) × (a .1 .0 ≤ 256)) where
     abbrev plan : List Entry
@@ -54,11 +58,11 @@ module _ {M : Type 1} (𝓤 : URA M) (H : Heap 𝓤) (A : Atoms 𝓤) (W : Given
     abbrev t : List Entry
     t = a .1 .1 .0
 
-    abbrev Entered : walkOf 𝓤 H A f.ended (dropped f.ended) (f.clauses 𝓤 H A mem run) .Ghost
+    abbrev Entered : walkOf 𝓤 H A f.ended (dropped f.ended) promised .Ghost
     Entered = ((κs, qs, tt, a, spelling f.ended copy-spells κs a), tt)
 
     abbrev Post : Val → SProp 𝓤
-    Post = walkOf 𝓤 H A f.ended (dropped f.ended) (f.clauses 𝓤 H A mem run) .post Entered
+    Post = walkOf 𝓤 H A f.ended (dropped f.ended) promised .post Entered
 
     -- the table once i entries are copied
     abbrev L : ℕ → List Entry
@@ -70,7 +74,7 @@ module _ {M : Type 1} (𝓤 : URA M) (H : Heap 𝓤) (A : Atoms 𝓤) (W : Given
     long : (i : ℕ) → i ≤ n → length (L i) ≡ 256
     long i h = over-length plan t i (omega (arith, fits .0)) (omega (arith, fits .1, t-long)) ∙ t-long
 
-    module _ (𝓣 : Tables 𝓤 H) (l : Blocks (code.function .locals)) where
+    module _ (l : Blocks (code.function .locals)) where
       abbrev E : Env 𝓤 H
       E = envOf 𝓤 H (code.function .locals) l
 
@@ -80,11 +84,12 @@ module _ {M : Type 1} (𝓤 : URA M) (H : Heap 𝓤) (A : Atoms 𝓤) (W : Given
 
       -- the invariant, at i entries copied
       abbrev At : Upto n → List (Item 𝓤)
-      At i = ‵ (fshr-bor (κs .0) (λ s. arr-parts (shares Row) (length plan) .part s plan b o)) ∷ ‵ (flft (κs .0) (qs .0)) ∷ ‵ (row Row fullShare (L (i .0)) l₄ 0)
+      At i = ‵ (fshr-bor (κs .0) (λ s. arr-parts (shares Row) (length plan) .part s plan b o)) ∷ ‵ (flft (κs .0) (qs .0))
+          ∷ ‵ (row Row fullShare (L (i .0)) l₄ 0)
           ∷ cells 𝓤 H (drop-list 5 E) (held (vint w64 (i .0)) ∷ []) (‵ (fdies table l₄)
           ∷ cells 𝓤 H (take 4 E) (bare ∷ held (sliceVal (b, o) (length plan)) ∷ held (vint w64 n) ∷ []) [])
 
-      turn-at : (i : Upto n) (z : Bool) → ltb (i .0) n ≡ z → Sq W (At i) (runs (𝓣 .C) (𝓣 .Λ) E piece.turn-1 (anyQ (Turned 𝓤 H A (𝓣 .C) (𝓣 .Λ) E piece.t-4 Post n At i)))
+      turn-at : (i : Upto n) (z : Bool) → ltb (i .0) n ≡ z → Sq W (At i) (Turns 𝓤 H A 𝓣 E piece.turn-1 piece.t-4 Post n At i)
       unfolding afterTurn
       turn-at i true e =
           sets ! (bin ! (value ! 17 refl) (value ! 22 refl) tt) 15 refl (tt, tt) $
@@ -93,7 +98,8 @@ module _ {M : Type 1} (𝓤 : URA M) (H : Heap 𝓤) (A : Atoms 𝓤) (W : Given
           sets ! (bin ! (value ! 17 refl) (lit ! tt) (record { fits = small })) 13 refl (tt, record { fits = small }) $
           sets ! (bin ! (load ! (from ! (fld ! refl (stop !))) (look-in ! 24 (sub ! 0 refl (whole !)))) (value ! 13 refl) tt) 11 refl (tt, tt) $
           rewrite ! 11 (λ (p : ℕ). ‵ (fat fullShare tyPtr (l .1 .1 .1 .1 .1 .1 .1 .1 .0) 0 (vptr b p))) (sym (place-is 8 o (i .0))) refl $
-          looks-slice ! tt Row (Is Row) (shows 𝓤 H A Row) (LL.vals T.the-type T′.the-laws) (LL.tells T.the-type T′.the-laws) (LL.copy T.the-type T′.the-copy 𝓤 H A W) plan b o (λ q′.
+          looks-slice ! tt Row (Is Row) (shows 𝓤 H A Row) (LL.vals T.the-type T′.the-laws) (LL.tells T.the-type T′.the-laws)
+          (LL.copy T.the-type T′.the-copy 𝓤 H A W) plan b o (λ q′.
           entry-out ! q′ plan (i .0) b o (here .in-new) (λ g.
           -- [plan[i]; what it owns; the others; what shuts; the fractured borrow; the table's row; _12; …; _11; …; _10; …; _9; …; _8; …]
           sets ! (of-opd ! (load ! (from ! (hop ! (look ! 14 refl) (stop !))) (look-raw ! 0 refl))) 12 refl (entry-typed 𝓤 H A W (at plan (i .0)) g) $
@@ -120,37 +126,41 @@ module _ {M : Type 1} (𝓤 : URA M) (H : Heap 𝓤) (A : Atoms 𝓤) (W : Given
           next = omega (arith, here .near)
       turn-at i false e =
           sets ! (bin ! (value ! 17 refl) (value ! 22 refl) tt) 15 refl (tt, tt) $
-          rewrite ! 15 (λ (z : Bool). ‵ (fat fullShare tyBool (l .1 .1 .1 .1 .1 .1 .0) 0 (vbool z))) e refl $ leaves-loop ! (value ! 15 refl) $ exec ! (𝓣 .C) (𝓣 .Λ) E piece.t-4 (atRet E Post) $
+          rewrite ! 15 (λ (z : Bool). ‵ (fat fullShare tyBool (l .1 .1 .1 .1 .1 .1 .0) 0 (vbool z))) e refl $
+          leaves-loop ! (value ! 15 refl) $ exec ! (𝓣 .C) (𝓣 .Λ) E piece.t-4 (atRet E Post) $
           rewrite ! 2 (λ (j : ℕ). ‵ (row Row fullShare (L j) l₄ 0)) all refl $
           -- the table is put together again, and read whole
-          move ! (2 ∷ []) $ array-closes ! Row 256 (L n) (long n (omega arith)) l₄ 0 (λ v. move ! (1 ∷ []) $ peeks ! Table (Is Table) (shows 𝓤 H A Table) (L n) (v ∷ []) (λ is.
+          move ! (2 ∷ []) $ array-closes ! Row 256 (L n) (long n (omega arith)) l₄ 0 (λ v. move ! (1 ∷ []) $
+          peeks ! Table (Is Table) (shows 𝓤 H A Table) (L n) (v ∷ []) (λ is.
           -- [what the table owns; _4; the fractured borrow; the token; _12; …; _5; …; that _4 dies; _3; …; _2; …; _1; …; _0; …]
           sets ! (of-opd ! (value ! 1 refl)) 27 refl (table-typed 𝓤 H A W (L n) v is) $ returns ! (look ! 27 refl) $
           move ! (locals 21 4 ++ (1 ∷ 20 ∷ locals 4 8)) $ let-go ! (held _ ∷ held _ ∷ held _ ∷ bare ∷ held _ ∷ held _ ∷ held _ ∷ []) refl $
           nothing ! $ keep ! (3 ∷ 0 ∷ 1 ∷ []) $ group ! 2 $
-          by ! (ends-dropped 𝓤 H A W f.ended (f.clauses 𝓤 H A mem run) Entered v (L n) (tt, (tt, (tt, tt))) (tt, (tt, (tt, tt))) (factI 𝓤 _ (emp 𝓤) refl))))
+          by ! (ends-dropped 𝓤 H A W f.ended promised Entered v (L n) (tt, (tt, (tt, tt))) (tt, (tt, (tt, tt))) (factI 𝓤 _ (emp 𝓤) refl))))
         where
           all : i .0 ≡ n
           all = omega (arith, i .1, ltb-false (i .0) n e)
 
-    walk : (𝓣 : Tables 𝓤 H) → Walk 𝓤 H A W f.ended (dropped f.ended) (f.clauses 𝓤 H A mem run) code.function 𝓣 Entered
-    walk 𝓣 =
+    walk : Walk 𝓤 H A W f.ended (dropped f.ended) promised code.function 𝓣 Entered
+    walk =
         begins 𝓤 H A W f.signature κs qs a _ ∵ keep ! (2 ∷ 0 ∷ 4 ∷ []) $ fsplit ! $ drop ! $ fsplit ! $ drop ! $
         -- [the fractured borrow; the token; what the table owns]
         enter ! (𝓣 .C) (𝓣 .Λ) code.function _ _ $ allocated ! (λ l. params1 ! $
-        takes ! 22 refl (tt, (tt, (record { fits = are .0 .0 .1 .0 }, tt))) $ takes ! 20 refl (tt, record { fits = are .1 .0 .1 }) $ takes ! 18 refl typed $ pass0 ! $
+        takes ! 22 refl (tt, (tt, (record { fits = are .0 .0 .1 .0 }, tt))) $
+        takes ! 20 refl (tt, record { fits = are .1 .0 .1 }) $ takes ! 18 refl typed $ pass0 ! $
         sets ! (of-opd ! (value ! 18 refl)) 16 refl typed $ sets ! (of-opd ! (lit ! tt)) 14 refl (tt, record { fits = lit< tt }) $
-        forget ! 18 refl $ move ! (16 ∷ 28 ∷ []) $ array-opens ! Row tt 256 t (only (table-vals t)) (l₄ 𝓣 l) 0 (λ _. move ! (26 ∷ 27 ∷ 0 ∷ []) $
-        first ! $ blocks ! $ loops ! 𝓣 (Nearer n) (nearer-ends n) (At 𝓣 l) (λ i. turn-at 𝓣 l i (ltb (i .0) n) refl) (0, zero-le)))
+        forget ! 18 refl $ move ! (16 ∷ 28 ∷ []) $ array-opens ! Row tt 256 t (only (table-vals t)) (l₄ l) 0 (λ _. move ! (26 ∷ 27 ∷ 0 ∷ []) $
+        first ! $ blocks ! $ loops ! 𝓣 (Nearer n) (nearer-ends n) (At l) (λ i. turn-at l i (ltb (i .0) n) refl) (0, zero-le)))
       where
         typed : T (hasTy table (only (table-vals t))) × WT (only (table-vals t))
         typed = table-typed 𝓤 H A W t (only (table-vals t)) (are .1 .1 .0)
 
-  meets : (𝓣 : Tables 𝓤 H) → Meets 𝓤 H A f.signature (WpFn 𝓤 H (𝓣 .C) (𝓣 .Λ) code.function) (f.spec 𝓤 H A mem run)
-  meets 𝓣 =
-      met-by 𝓤 H A W f.ended (dropped f.ended) (f.clauses 𝓤 H A mem run) code.function 𝓣 (dropped-go 𝓤 H A W f.ended (λ κs x w. refl, (λ κs x w. refl, (λ κs x w. refl, tt))))
+  meets : Meets 𝓤 H A f.signature (WpFn 𝓤 H (𝓣 .C) (𝓣 .Λ) code.function) (f.spec 𝓤 H A mem run)
+  meets =
+      met-by 𝓤 H A W f.ended (dropped f.ended) promised code.function 𝓣
+      (dropped-go 𝓤 H A W f.ended (λ κs x w. refl, (λ κs x w. refl, (λ κs x w. refl, tt))))
       copy-spells (λ κs. (shr-slice-tells (named 0) (κs .0) Row, (uint-tells w64, (table-tells, tt))))
-      (λ κs qs bounds a g are. needs 𝓤 ((a .1 .0 ≤ length (a .0 .now)) × (a .1 .0 ≤ 256)) _ (λ h. walk κs qs a are h 𝓣))
+      (λ κs qs bounds a g are. needs 𝓤 ((a .1 .0 ≤ length (a .0 .now)) × (a .1 .0 ≤ 256)) _ (λ h. walk κs qs a are h))
 
 pub copy-in-spec : {M : Type 1} → stated.statement M
 unfolding code.routine tablesOf
