@@ -26,19 +26,22 @@ module _ (times : List ℕ) (arrows : List (List ℕ)) where
   pub one-judged : (M D : ℕ) (r s : FlatAnswer) → Flattens (IsAnswer times arrows M D) flatAnswer r → Flattens (IsAnswer times arrows M D) flatAnswer s → r ≡ s
   one-judged M D r s p q = one-form flatAnswer r s p q (one.one-judged times arrows M D (p .reply) (q .reply) (p .is) (q .is))
 
-  pub one-checked : (M : ℕ) (plan : List Entry) (r s : FlatEnd) → Flattens (IsChecked times arrows M plan) flatEnd r → Flattens (IsChecked times arrows M plan) flatEnd s → r ≡ s
+  pub one-checked : (M : ℕ) (plan : List Entry) (r s : FlatEnd)
+      → Flattens (IsChecked times arrows M plan) flatEnd r → Flattens (IsChecked times arrows M plan) flatEnd s → r ≡ s
   one-checked M plan r s p q = one-form flatEnd r s p q (one.one-checked times arrows M plan (p .reply) (q .reply) (p .is) (q .is))
 
   -- the reply, and the lent row
   pub one-listed : (M : ℕ) (order : List ℕ) (before after other : List Entry) (r s : FlatEnd)
-      → Flattens (IsListed times arrows M order before after) flatEnd r → Flattens (IsListed times arrows M order before other) flatEnd s → (r ≡ s) × (after ≡ other)
+      → Flattens (IsListed times arrows M order before after) flatEnd r
+      → Flattens (IsListed times arrows M order before other) flatEnd s → (r ≡ s) × (after ≡ other)
   one-listed M order before after other r s p q =
       let same = one.one-listed times arrows M order before after other (p .reply) (q .reply) (p .is) (q .is) in
       (one-form flatEnd r s p q (same .0), same .1)
 
 -- the reply, and both rows
 pub one-read : (timesRoom arrowsRoom : ℕ) (text timesRow timesRow′ : List ℕ) (arrowsRow arrowsRow′ : List (List ℕ)) (r s : FlatCounts)
-    → Flattens (IsRead timesRoom arrowsRoom text timesRow arrowsRow) flatCounts r → Flattens (IsRead timesRoom arrowsRoom text timesRow′ arrowsRow′) flatCounts s
+    → Flattens (IsRead timesRoom arrowsRoom text timesRow arrowsRow) flatCounts r
+    → Flattens (IsRead timesRoom arrowsRoom text timesRow′ arrowsRow′) flatCounts s
     → (r ≡ s) × (timesRow ≡ timesRow′) × (arrowsRow ≡ arrowsRow′)
 one-read timesRoom arrowsRoom text timesRow timesRow′ arrowsRow arrowsRow′ r s p q =
     let same = one.one-read timesRoom arrowsRoom text timesRow timesRow′ arrowsRow arrowsRow′ (p .reply) (q .reply) (p .is) (q .is) in

@@ -9,7 +9,8 @@ use Rattle.terms.specs.declared.Counts.the-variants.{Read, Refused}
 use Rattle.theory.proofs.ReadSizes.{read-sizes}
 use Rattle.api.specs.Flats.{InRange}
 
-pub in-range : (timesRoom arrowsRoom : ℕ) (text timesRow : List ℕ) (arrowsRow : List (List ℕ)) (r : Counts) → IsRead timesRoom arrowsRoom text timesRow arrowsRow r → InRange r
+pub in-range : (timesRoom arrowsRoom : ℕ) (text timesRow : List ℕ) (arrowsRow : List (List ℕ)) (r : Counts)
+    → IsRead timesRoom arrowsRoom text timesRow arrowsRow r → InRange r
 in-range timesRoom arrowsRoom text timesRow arrowsRow (Read size) h = read-sizes timesRoom arrowsRoom text timesRow arrowsRow size h
 in-range timesRoom arrowsRoom text timesRow arrowsRow (Refused refusal) h = tt
 

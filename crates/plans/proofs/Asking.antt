@@ -114,15 +114,15 @@ module _ {M : Type 1} {𝓤 : URA M} {H : Heap 𝓤} {A : Atoms 𝓤} {K : Type 
       let live : Item 𝓤 = raw (alive 𝓤 H A (T .signature) (y .0 .0) (y .0 .1)) in
       let Γ′ : List (Item 𝓤) = raw (Asked 𝓤 H A T c .pre y) ∷ Γ in
       let Back : Res (T .signature) (y .0 .0) → Lasts T (y .0 .0) (y .0 .3) → Item 𝓤 = λ r ws.
-          ‵ (lasts T (y .0 .0) (y .0 .3) ws) ⊛ raw (Promised 𝓤 H A T c y r ws) in
+      ‵ (lasts T (y .0 .0) (y .0 .3) ws) ⊛ raw (Promised 𝓤 H A T c y r ws) in
       let called : Seq K W Γ′ (runs (𝓣 .C) (𝓣 .Λ) E (seq (call f xs d) b) q) =
-          calls-at t (fmOf 𝓤 H (W .laws) 𝓣) (Asked 𝓤 H A T c) (known .met) y os (λ w.
-          use1 W (later (some (λ (r : Res (T .signature) (y .0 .0)). (live ⊛ ‵ (R .own r (w ∷ []))) ⊛ some (Back r)))) (id⊢ 𝓤 _) $ await t tt $
-          pick t (λ r. split t $ move t (1 ∷ []) $ pick t (λ ws. split t $ move t (1 ∷ []) $
-          use1 W (raw (fact 𝓤 (Said r ws))) (says r ws) $ heard t (Said r ws) (λ h.
-          -- [the last values; the tokens and the result]
-          move t (1 ∷ []) $ split t $ move t (1 ∷ []) $ peeks t R (Is R) (shows 𝓤 H A R) r (w ∷ []) (λ is. move t (1 ∷ []) $
-          cut (live ∷ []) (tokens (lives T) (y .0 .0) (y .0 .1)) _ (each-token 𝓤 H A (lives T) (y .0 .0) (y .0 .1) .0) $ k w r ws h is))))) in
+      calls-at t (fmOf 𝓤 H (W .laws) 𝓣) (Asked 𝓤 H A T c) (known .met) y os (λ w.
+      use1 W (later (some (λ (r : Res (T .signature) (y .0 .0)). (live ⊛ ‵ (R .own r (w ∷ []))) ⊛ some (Back r)))) (id⊢ 𝓤 _) $ await t tt $
+      pick t (λ r. split t $ move t (1 ∷ []) $ pick t (λ ws. split t $ move t (1 ∷ []) $
+      use1 W (raw (fact 𝓤 (Said r ws))) (says r ws) $ heard t (Said r ws) (λ h.
+      -- [the last values; the tokens and the result]
+      move t (1 ∷ []) $ split t $ move t (1 ∷ []) $ peeks t R (Is R) (shows 𝓤 H A R) r (w ∷ []) (λ is. move t (1 ∷ []) $
+      cut (live ∷ []) (tokens (lives T) (y .0 .0) (y .0 .1)) _ (each-token 𝓤 H A (lives T) (y .0 .0) (y .0 .1) .0) $ k w r ws h is))))) in
       by t (via 𝓤 (⋆ 𝓤 H A Γ′) (subst (λ (Ξ : List (Item 𝓤)). ent 𝓤 (⋆ 𝓤 H A Ξ) (⋆ 𝓤 H A Γ′)) (sym begin)
       (brought 𝓤 H A (lives T) (y .0 .0) (y .0 .1) (Types T (y .0 .0)) (y .0 .3) (y .0 .4) Γ (c (y .0 .0) (y .0 .3) .requires (y .1)) asked)) (called .prf))
 

@@ -62,7 +62,13 @@ list-spells κs = (slice-vals, (slice-vals, (uint-vals w32, (slice-vals, (slice-
 pub list-tells : (κs : Lfts 4) → Tellss (ListTypes κs) (Ises (ListTypes κs)) (list-spells κs)
 list-tells κs = (
   shr-slice-tells (named 0) (κs .0) u16,
-  (shr-slice-tells (named 1) (κs .1 .0) Arrow, (uint-tells w32, (shr-slice-tells (named 2) (κs .1 .1 .0) u16, (mut-slice-tells (named 3) (κs .1 .1 .1 .0) Row, tt)))),
+  (
+    shr-slice-tells (named 1) (κs .1 .0) Arrow,
+    (
+      uint-tells w32,
+      (shr-slice-tells (named 2) (κs .1 .1 .0) u16, (mut-slice-tells (named 3) (κs .1 .1 .1 .0) Row, tt)),
+    ),
+  ),
 )
 
 -- the plan that is written is given up for good, and its last list is said; nothing is had of the others
@@ -84,4 +90,5 @@ module _ {M : Type 1} (𝓤 : URA M) (H : Heap 𝓤) (A : Atoms 𝓤) (W : Given
 
   pub list-had : (F : Fml) → ent 𝓤 (sem 𝓤 H A F) (sem 𝓤 H A (fsep ftrue (fsep ftrue (fsep ftrue (fsep ftrue (fsep F ftrue))))))
   list-had F =
-      qed W (‵ F ∷ []) ∵ nothing ! $ move ! (1 ∷ 0 ∷ []) $ fjoin ! $ nothing ! $ fjoin ! $ nothing ! $ fjoin ! $ nothing ! $ fjoin ! $ nothing ! $ fjoin ! $ done !
+      qed W (‵ F ∷ []) ∵ nothing ! $ move ! (1 ∷ 0 ∷ []) $ fjoin ! $ nothing ! $ fjoin ! $
+      nothing ! $ fjoin ! $ nothing ! $ fjoin ! $ nothing ! $ fjoin ! $ done !

@@ -1,4 +1,5 @@
--- A local array `[T; n]` in a walk by hand: it is taken apart into its row of elements, which `Denote/Index.antt`'s `elem-out`, `elem-back` and `elem-put` read and write, and put together again.
+-- A local array `[T; n]` in a walk by hand: it is taken apart into its row of elements, which `Denote/Index.antt`'s `elem-out`, `elem-back`
+-- and `elem-put` read and write, and put together again.
 --     array-opens      the cell at the array's type and what the array owns  ⟶  the whole share of its row
 --     array-closes     the row, of n elements  ⟶  the cell, at some machine value, and what the array owns at it
 --     array-room       the row, of n elements  ⟶  room for the array: for the end of the function, where the value is no longer wanted
@@ -27,7 +28,8 @@ module _ {M : Type 1} {𝓤 : URA M} {H : Heap 𝓤} {A : Atoms 𝓤} {K : Type 
       rewrite t 1 (λ (ws : List Val). ‵ (cellAt fullShare (Array R n .mir) ws b o)) is refl $
       feqI t ℕ (length xs) n l $ feqI t (List Val) (arrayVal us ∷ []) (arrayVal us ∷ []) refl $ fjoin t $ fjoin t $
       fpack t (List Val) (λ ws. fsep (shape n xs (arrayVal us ∷ []) ws) (each (R .Denot) (R .own) xs ws)) us $
-      move t (1 ∷ []) $ use1 W (‵ (fat fullShare (tyArray (lone (R .mir)) n) b o (arrayVal us))) (W .laws .raw-at fullShare (tyArray (lone (R .mir)) n) b o (arrayVal us)) $ k (arrayVal us)))))
+      move t (1 ∷ []) $ use1 W (‵ (fat fullShare (tyArray (lone (R .mir)) n) b o (arrayVal us)))
+      (W .laws .raw-at fullShare (tyArray (lone (R .mir)) n) b o (arrayVal us)) $ k (arrayVal us)))))
 
   pub array-room : K → (R : RattleType) (n : ℕ) (xs : List (R .Denot)) → length xs ≡ n → (b o : ℕ)
       → Step K W (‵ (froom (tyArray (lone (R .mir)) n) b o) ∷ Γ) G (‵ (row R fullShare xs b o) ∷ Γ) G

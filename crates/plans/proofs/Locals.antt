@@ -79,7 +79,8 @@ module _ {M : Type 1} {𝓤 : URA M} {H : Heap 𝓤} {A : Atoms 𝓤} {K : Type 
   let-go t fs {E} {Γ} {Γ′} {g} e = step (λ s. subst (λ (Δ : List (Item 𝓤)). Seq K W Δ (frees E g)) (sym e) (lets-go t E fs s))
 
   -- an argument is stored
-  pub takes : K → {Γ : List (Item 𝓤)} {E : Env 𝓤 H} {τ : Ty} {b : ℕ} {v : Val} {vs : List Val} {g : Goal 𝓤 H} (n : ℕ) → nth 𝓤 H A n Γ ≡ ‵ (froom τ b 0) → T (hasTy τ v) × WT v
+  pub takes : K → {Γ : List (Item 𝓤)} {E : Env 𝓤 H} {τ : Ty} {b : ℕ} {v : Val} {vs : List Val} {g : Goal 𝓤 H} (n : ℕ)
+      → nth 𝓤 H A n Γ ≡ ‵ (froom τ b 0) → T (hasTy τ v) × WT v
       → Step K W (put 𝓤 H A n (‵ (fat fullShare τ b 0 v)) Γ) (passes E vs g) Γ (passes ((τ, b) ∷ E) (v ∷ vs) g)
   takes t n e wt = pass1 t (init t n e wt)
 

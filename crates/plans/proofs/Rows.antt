@@ -27,7 +27,8 @@ module _ (times : List ℕ) (arrows : List (List ℕ)) (M : ℕ) (order : List �
   -- a draft fits its row and its table
   pub fits : (room : ℕ) (entries : List Entry) (n : ℕ) (r : PlanEnd) → IsDrafted times arrows M order room entries n r → (n ≤ room) × (n ≤ 256)
   unfolding IsDrafted
-  fits room entries n (Ends E) (a, h) = let s = sound-list times arrows M order room a in (omega (arith, h .count, s .3), omega (arith, h .count, s .0 .count .high))
+  fits room entries n (Ends E) (a, h) =
+      let s = sound-list times arrows M order room a in (omega (arith, h .count, s .3), omega (arith, h .count, s .0 .count .high))
   fits room entries n (Refused refusal) (a, e) = (omega arith, omega arith)
 
   -- and what is written over the row is the list plan, with the old entries past it

@@ -1,4 +1,4 @@
--- What the walks by hand cite of the logic, in one place: the proofs of `copy_in`, `copy_out`, `check_plan` and `list_plan`, and of those of api that pass the rows on.
+-- What the walks by hand cite of the logic, in one place. It shows nothing. Assumes nothing.
 pub use mathlib.Core.Path.{_≡_, refl, sym, subst, _∙_, ap}
 pub use Prim.Native.Nat.{ℕ, zero, suc, _+_, _<_, _≤_, _*_, _^_, zero-le}
 pub use mathlib.Core.List.{List, [], _∷_, _++_, map}

@@ -1,5 +1,4 @@
 -- `zul_check_plan` meets its contract: a walk of its MIR, by hand. All that it knows of `check_plan` and `flatten_end` is that each meets its contract.
--- What the slices own is had twice at the start: one copy is kept whole for the exit, and the other goes to `check_plan`.
 -- Assumes nothing.
 use Rattle.plans.proofs.Walking.{_≡_, refl, [], _∷_, URA, WpFn, Heap, Tables, Atoms, Given, _$_, move, _∵_, !, by, keep, group, look, returns, enter, params1}
 use Rattle.plans.proofs.Walking.{pass0, no-more, mem, SProp, emp, id⊢, via, fst∗, Lfts, Shares, Fun, factI, nothing, Args, Vals, Clauses, Meets, walkOf}
@@ -52,15 +51,18 @@ module _ {M : Type 1} (𝓤 : URA M) (H : Heap 𝓤) (A : Atoms 𝓤) (W : Given
         move ! (span 12 9) $ asks ! 𝓣 known-check ((κs, qs, tt, a, vs), tt) (id⊢ 𝓤 _) refl (λ r _. Checked r) (λ r _. id⊢ 𝓤 _)
         (passing ! 9 refl (passing ! 7 refl (passing ! 5 refl (passing ! 3 refl (no-more !))))) (λ w₅ r _ e is₅.
         -- [the tokens; true; the reply; nothing; _5; …; _0; …]: `flatten_end`
-        sets-result ! 6 refl (EL.lawful E.the-type E′.the-laws 𝓤 H A W tt .typed r _ is₅ .0) $ nothing ! $ nothing ! $ move ! (0 ∷ 6 ∷ 1 ∷ []) $ asks ! 𝓣 known-flat ((tt, tt, tt, (r, tt), (w₅ ∷ [], tt)), tt) (id⊢ 𝓤 _) refl (λ s _. s ≡ flatEnd r) (λ s _. id⊢ 𝓤 _) (passing ! 6 refl (no-more !)) (λ w s _ e₀ is.
+        sets-result ! 6 refl (EL.lawful E.the-type E′.the-laws 𝓤 H A W tt .typed r _ is₅ .0) $ nothing ! $ nothing ! $ move ! (0 ∷ 6 ∷ 1 ∷ []) $
+        asks ! 𝓣 known-flat ((tt, tt, tt, (r, tt), (w₅ ∷ [], tt)), tt) (id⊢ 𝓤 _) refl (λ s _. s ≡ flatEnd r) (λ s _. id⊢ 𝓤 _)
+        (passing ! 6 refl (no-more !)) (λ w s _ e₀ is.
         -- [true; the flat reply; nothing; the tokens; true; nothing; _5; …; _0; …]
         sets-result ! 18 refl (LL.lawful F.the-type F′.the-laws 𝓤 H A W .typed s _ is .0) $ returns ! (look ! 18 refl) $
         move ! (locals 8 6) $ let-go ! (held _ ∷ held _ ∷ held _ ∷ held _ ∷ held _ ∷ held _ ∷ []) refl $ keep ! (3 ∷ 4 ∷ 5 ∷ 6 ∷ 1 ∷ []) $ group ! 4 $
-        by ! (ends-dropped 𝓤 H A W f.ended promised Entered w s (tt, (tt, (tt, (tt, tt)))) (tt, (tt, (tt, (tt, tt)))) (factI 𝓤 _ (emp 𝓤) (record { reply = r; is = e; same = e₀ }))))))
+        by ! (ends-dropped 𝓤 H A W f.ended promised Entered w s (tt, (tt, (tt, (tt, tt)))) (tt, (tt, (tt, (tt, tt))))
+        (factI 𝓤 _ (emp 𝓤) (record { reply = r; is = e; same = e₀ }))))))
 
   meets : Meets 𝓤 H A f.signature (WpFn 𝓤 H (𝓣 .C) (𝓣 .Λ) code.function) (f.spec 𝓤 H A mem run)
-  meets = met-by 𝓤 H A W f.ended (dropped f.ended) promised code.function 𝓣 (dropped-go 𝓤 H A W f.ended (λ κs x w. refl, (λ κs x w. refl, (λ κs x w. refl, (λ κs x w. refl, tt)))))
-      check-spells check-tells (λ κs qs bounds a g are. via 𝓤 _ (fst∗ 𝓤 _ (emp 𝓤)) (walk κs qs a are))
+  meets = met-by 𝓤 H A W f.ended (dropped f.ended) promised code.function 𝓣
+      (dropped-go 𝓤 H A W f.ended (λ κs x w. refl, (λ κs x w. refl, (λ κs x w. refl, (λ κs x w. refl, tt))))) check-spells check-tells (λ κs qs bounds a g are. via 𝓤 _ (fst∗ 𝓤 _ (emp 𝓤)) (walk κs qs a are))
 
 pub zul-check-plan-spec : {M : Type 1} → stated.statement M
 unfolding code.routine tablesOf

@@ -1,5 +1,5 @@
 -- `zul_list_plan` meets its contract: a walk of its MIR, by hand. All that it knows of `list_plan` and `flatten_end` is that each meets its contract.
--- What the rows that are only read own is had twice at the start: one copy is kept for the exit. The plan's row is given up for good to `list_plan` (`gave-slice`), which says its last list.
+-- The plan's row is given up for good to `list_plan` (`gave-slice`), which says its last list.
 -- Assumes nothing.
 use Rattle.plans.proofs.Walking.{_≡_, refl, List, [], _∷_, URA, WpFn, Heap, Tables, Atoms, Given, _$_, move, drop, fsplit, feqL, _∵_, !, by, keep, group}
 use Rattle.plans.proofs.Walking.{look, stop, from, load, and-then, hop, fld, addr, returns, enter, params1, pass0, no-more, mem, SProp, emp, id⊢, via, fst∗}
@@ -61,13 +61,18 @@ module _ {M : Type 1} (𝓤 : URA M) (H : Heap 𝓤) (A : Atoms 𝓤) (W : Given
         move ! (span 18 11) $ asks ! 𝓣 known-list ((κs, qs, tt, a, vs), tt) (id⊢ 𝓤 _) refl (λ r zs. Listed (zs .1 .1 .1 .1 .0) r) (λ r zs. id⊢ 𝓤 _)
         (passing ! 15 refl (passing ! 13 refl (passing ! 11 refl (passing ! 9 refl (passing ! 1 refl (no-more !)))))) (λ w₆ r zs e is₆.
         -- [the tokens; true; the reply; the last values; _8; …; _0; …]
-        move ! (6 ∷ []) $ fsplit ! $ drop ! $ fsplit ! $ drop ! $ fsplit ! $ drop ! $ fsplit ! $ drop ! $ fsplit ! $ fsplit ! $ move ! (1 ∷ []) $ feqL ! (λ same.
+        move ! (6 ∷ []) $ fsplit ! $ drop ! $ fsplit ! $ drop ! $ fsplit ! $ drop ! $ fsplit ! $ drop ! $ fsplit ! $ fsplit ! $
+        move ! (1 ∷ []) $ feqL ! (λ same.
         -- [the last list; nothing; the tokens; true; the reply; _8; …; _0; …]: `flatten_end`
-        sets-result ! 12 refl (EL.lawful E.the-type E′.the-laws 𝓤 H A W tt .typed r _ is₆ .0) $ nothing ! $ nothing ! $ move ! (0 ∷ 9 ∷ 1 ∷ []) $ asks ! 𝓣 known-flat ((tt, tt, tt, (r, tt), (w₆ ∷ [], tt)), tt) (id⊢ 𝓤 _) refl (λ s _. s ≡ flatEnd r) (λ s _. id⊢ 𝓤 _) (passing ! 12 refl (no-more !)) (λ w s _ e₀ is.
+        sets-result ! 12 refl (EL.lawful E.the-type E′.the-laws 𝓤 H A W tt .typed r _ is₆ .0) $ nothing ! $ nothing ! $ move ! (0 ∷ 9 ∷ 1 ∷ []) $
+        asks ! 𝓣 known-flat ((tt, tt, tt, (r, tt), (w₆ ∷ [], tt)), tt) (id⊢ 𝓤 _) refl (λ s _. s ≡ flatEnd r) (λ s _. id⊢ 𝓤 _)
+        (passing ! 12 refl (no-more !)) (λ w s _ e₀ is.
         -- [true; the flat reply; nothing; the last list; nothing; the tokens; true; _8; …; _0; …]
         sets-result ! 26 refl (LL.lawful F.the-type F′.the-laws 𝓤 H A W .typed s _ is .0) $ returns ! (look ! 26 refl) $
-        move ! (locals 10 9) $ let-go ! (held _ ∷ held _ ∷ held _ ∷ held _ ∷ held _ ∷ held _ ∷ held _ ∷ held _ ∷ held _ ∷ []) refl $ keep ! (5 ∷ 6 ∷ 7 ∷ 8 ∷ 9 ∷ 3 ∷ 1 ∷ []) $ group ! 5 $
-        by ! (ends 𝓤 H A W f.ended list-stay promised Entered w s (tt, (tt, (tt, (tt, (zs .1 .1 .1 .1 .0, tt))))) (tt, (tt, (tt, (tt, (same, tt))))) (factI 𝓤 _ (emp 𝓤) (record { reply = r; is = e; same = e₀ }))
+        move ! (locals 10 9) $ let-go ! (held _ ∷ held _ ∷ held _ ∷ held _ ∷ held _ ∷ held _ ∷ held _ ∷ held _ ∷ held _ ∷ []) refl $
+        keep ! (5 ∷ 6 ∷ 7 ∷ 8 ∷ 9 ∷ 3 ∷ 1 ∷ []) $ group ! 5 $
+        by ! (ends 𝓤 H A W f.ended list-stay promised Entered w s (tt, (tt, (tt, (tt, (zs .1 .1 .1 .1 .0, tt))))) (tt, (tt, (tt, (tt, (same, tt)))))
+        (factI 𝓤 _ (emp 𝓤) (record { reply = r; is = e; same = e₀ }))
         (finally Row (plan .name) (zs .1 .1 .1 .1 .0)) (list-had 𝓤 H A W (finally Row (plan .name) (zs .1 .1 .1 .1 .0))))))))
 
   meets : Meets 𝓤 H A f.signature (WpFn 𝓤 H (𝓣 .C) (𝓣 .Λ) code.function) (f.spec 𝓤 H A mem run)

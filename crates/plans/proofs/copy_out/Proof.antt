@@ -98,7 +98,7 @@ module _ {M : Type 1} (𝓤 : URA M) (H : Heap 𝓤) (A : Atoms 𝓤) (W : Given
 
       -- the invariant, at i entries written
       abbrev At : Upto n → List (Item 𝓤)
-      At i = ‵ (fobs γ (codedHoleys Row .code (heres Row (L (i .0))))) ∷ ‵ (fbor (κs .0) (Held Row (length (L (i .0))) b o γ)) 
+      At i = ‵ (fobs γ (codedHoleys Row .code (heres Row (L (i .0))))) ∷ ‵ (fbor (κs .0) (Held Row (length (L (i .0))) b o γ))
           ∷ ‵ (flft (κs .0) (qs .0)) ∷ ‵ (row Row fullShare t l₄ 0)
           ∷ cells 𝓤 H (drop-list 5 E) (held (vint w64 (i .0)) ∷ []) (‵ (fdies table l₄)
           ∷ cells 𝓤 H (take 4 E) (bare ∷ held (sliceVal (b, o) (length plan)) ∷ bare ∷ held (vint w64 n) ∷ []) [])
@@ -174,9 +174,10 @@ module _ {M : Type 1} (𝓤 : URA M) (H : Heap 𝓤) (A : Atoms 𝓤) (W : Given
 
   meets : Meets 𝓤 H A f.signature (WpFn 𝓤 H (𝓣 .C) (𝓣 .Λ) code.function) (f.spec 𝓤 H A mem run)
   meets =
-      met-by 𝓤 H A W f.ended stayed promised code.function 𝓣
-      (goes-slice 𝓤 H A W 1 0 tt (plain (λ _. Row)),
-      (goes-dropped 𝓤 H A W 1 (plain (λ _. Table)) yes (λ κs x w. refl), (goes-dropped 𝓤 H A W 1 (plain (λ _. usize)) yes (λ κs x w. refl), tt)))
+      met-by 𝓤 H A W f.ended stayed promised code.function 𝓣 (
+        goes-slice 𝓤 H A W 1 0 tt (plain (λ _. Row)),
+        (goes-dropped 𝓤 H A W 1 (plain (λ _. Table)) yes (λ κs x w. refl), (goes-dropped 𝓤 H A W 1 (plain (λ _. usize)) yes (λ κs x w. refl), tt)),
+      )
       copy-spells (λ κs. (mut-slice-tells (named 0) (κs .0) Row, (table-tells, (uint-tells w64, tt))))
       (λ κs qs bounds a g are. needs 𝓤 ((a .1 .1 .0 ≤ length (a .0 .now)) × (a .1 .1 .0 ≤ 256)) _ (λ h. walk κs qs a are h))
 

@@ -1,4 +1,5 @@
--- `list_plan` meets its contract: a walk of its MIR, by hand. All that it knows of `draft_plan` and `copy_out` is that each meets its contract. The row is given up for good to `copy_out` (`gave-slice`), which says its last list.
+-- `plans::list_plan` meets its contract: a walk of its MIR, by hand. All that it knows of `draft_plan` and `copy_out` is that each meets its contract.
+-- The row is given up for good to `copy_out` (`gave-slice`), which says its last list.
 -- Assumes nothing.
 use Rattle.plans.proofs.Walking.{_≡_, refl, sym, subst, _∙_, ap, ℕ, _<_, _≤_, _^_, List, [], _∷_, map, length, length-map, URA, fullShare, w64, Val}
 use Rattle.plans.proofs.Walking.{vint, fat, WpFn, Heap, Tables, Atoms, Given, ‵, _$_, move, rewrite, fsplit, feqL, _∵_, !, by, keep, group, look, stop}
@@ -101,11 +102,13 @@ module _ {M : Type 1} (𝓤 : URA M) (H : Heap 𝓤) (A : Atoms 𝓤) (W : Given
           tt,
         ) (id⊢ 𝓤 _) refl (λ d _. IsDraft times arrows m order n d) (λ d _. id⊢ 𝓤 _)
         (passing ! 19 refl (passing ! 17 refl (passing ! 15 refl (passing ! 13 refl (passing ! 9 refl (no-more !)))))) (λ w₆ d _ h is.
-        -- [three tokens; true; the draft; nothing; _10; …; _0; …; the fourth token; the plan; true]: the draft's machine value is spelled out, so that its fields can be read
+        -- [three tokens; true; the draft; nothing; _10; …; _0; …; the fourth token; the plan; true]
+        -- the draft's machine value is spelled out, so that its fields can be read
         sets-result ! 12 refl (LL.lawful D.the-type D′.the-laws 𝓤 H A W .typed d _ is .0) $
         rewrite ! 12 (λ (z : Val). ‵ (fat fullShare D′.mir (l .1 .1 .1 .1 .1 .1 .1 .0) 0 z)) (ap only (LL.tells D.the-type D′.the-laws d _ is)) refl $
         sets ! (addr ! (from ! (fld ! refl (hop ! (look-in ! 16 (sub ! 0 refl (whole !))) (stop !))))) 8 refl (tt, tt) $
-        sets ! (agg ! (passing ! 8 refl (and-then ! (load ! (from ! (fld ! refl (stop !))) (look-in ! 16 (sub ! 1 refl (whole !)))) (no-more !)))) 6 refl (tt, (tt, (record { fits = room }, tt))) $
+        sets ! (agg ! (passing ! 8 refl (and-then ! (load ! (from ! (fld ! refl (stop !))) (look-in ! 16 (sub ! 1 refl (whole !)))) (no-more !)))) 6 refl
+        (tt, (tt, (record { fits = room }, tt))) $
         -- `copy_out`
         nothing ! $ has-word ! (d .n) (LL.owed D.the-type D′.the-laws d _ is .1 .1 .0) $
         has-table ! (d .entries) (table-is d _ is) $ move ! (31 ∷ 33 ∷ 32 ∷ 0 ∷ 1 ∷ 2 ∷ []) $
