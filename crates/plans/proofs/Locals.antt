@@ -60,14 +60,10 @@ module _ {M : Type 1} (𝓤 : URA M) (H : Heap 𝓤) where
   in-order (e ∷ E) fs Γ = cell e (top fs) ∷ ‵ (fdies (e .0) (e .1)) ∷ in-order E (rest fs) Γ
 
 module _ {M : Type 1} {𝓤 : URA M} {H : Heap 𝓤} {A : Atoms 𝓤} {K : Type 0} {W : Given 𝓤 H A} where
-  allocates : K → (xs : List Local) {Kt : Env 𝓤 H → Goal 𝓤 H} {Γ : List (Item 𝓤)}
-      → ((l : Blocks xs) → Seq K W (cells 𝓤 H (envOf 𝓤 H xs l) [] Γ) (Kt (envOf 𝓤 H xs l))) → Seq K W Γ (allocs xs Kt)
-  allocates t [] k = alloc0 t $ k tt
-  allocates t (local τ h ∷ xs) k = alloc1 t (λ b. allocates t xs (λ l. k (b, l)))
-
   pub allocated : K → {xs : List Local} {Kt : Env 𝓤 H → Goal 𝓤 H} {Γ : List (Item 𝓤)}
       → ((l : Blocks xs) → Seq K W (cells 𝓤 H (envOf 𝓤 H xs l) [] Γ) (Kt (envOf 𝓤 H xs l))) → Seq K W Γ (allocs xs Kt)
-  allocated t {xs} k = allocates t xs k
+  allocated t {xs = []} k = alloc0 t $ k tt
+  allocated t {xs = local τ h ∷ ys} k = alloc1 t (λ b. allocated t {xs = ys} (λ l. k (b, l)))
 
   lets-go : K → (E : Env 𝓤 H) (fs : List Fill) {Γ : List (Item 𝓤)} {g : Goal 𝓤 H} → Seq K W Γ g → Seq K W (in-order 𝓤 H E fs Γ) (frees E g)
   lets-go t [] fs s = free0 t $ s

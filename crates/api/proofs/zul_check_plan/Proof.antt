@@ -1,8 +1,8 @@
 -- `zul_check_plan` meets its contract: a walk of its MIR, by hand. All that it knows of `check_plan` and `flatten_end` is that each meets its contract.
 -- Assumes nothing.
 use Rattle.plans.proofs.Walking.{_≡_, refl, [], _∷_, URA, WpFn, Heap, Tables, Atoms, Given, _$_, move, _∵_, !, by, keep, group, look, returns, enter, params1}
-use Rattle.plans.proofs.Walking.{pass0, no-more, mem, SProp, emp, id⊢, via, fst∗, Lfts, Shares, Fun, factI, nothing, Args, Vals, Clauses, Meets, walkOf}
-use Rattle.plans.proofs.Walking.{Memory, Routine, tablesOf, givenOf, tables, entered, cited}
+use Rattle.plans.proofs.Walking.{pass0, no-more, mem, SProp, emp, id⊢, via, fst∗, Lfts, Shares, Fun, factI, nothing, Args, Clauses, Meets, walkOf, Memory}
+use Rattle.plans.proofs.Walking.{Routine, tablesOf, givenOf, tables, entered, cited}
 use Rattle.plans.proofs.Locals.{span, locals, allocated, let-go, takes, passing, sets-result, held}
 use Rattle.plans.proofs.Asking.{begins, spelling, Spelled, Known, asks, dropped, dropped-go, ends-dropped, Walk, met-by}
 use Rattle.plans.proofs.Lending.{check-spells, check-tells}
@@ -33,22 +33,19 @@ module _ {M : Type 1} (𝓤 : URA M) (H : Heap 𝓤) (A : Atoms 𝓤) (W : Given
   promised = f.clauses 𝓤 H A mem run
 
   module _ (κs : Lfts 3) (qs : Shares 3) (a : Args f.signature κs) (are : Spelled f.ended check-spells κs a) where
-    abbrev vs : Vals f.signature κs
-    vs = spelling f.ended check-spells κs a
-
     abbrev Entered : walkOf 𝓤 H A f.ended (dropped f.ended) promised .Ghost
-    Entered = ((κs, qs, tt, a, vs), tt)
+    Entered = ((κs, qs, tt, a, spelling f.ended check-spells κs a), tt)
 
     abbrev Checked : PlanEnd → Type 0
     Checked = IsChecked (a .0 .now) (a .1 .0 .now) (a .1 .1 .0) (a .1 .1 .1 .0 .now)
 
     walk : Walk 𝓤 H A W f.ended (dropped f.ended) promised code.function 𝓣 Entered
     walk =
-        begins 𝓤 H A W f.signature κs qs a vs ∵ enter ! (𝓣 .C) (𝓣 .Λ) code.function _ _ $ allocated ! (λ l. params1 ! $
+        begins 𝓤 H A W f.signature κs qs a _ ∵ enter ! (𝓣 .C) (𝓣 .Λ) code.function _ _ $ allocated ! (λ l. params1 ! $
         takes ! 8 refl (tt, (tt, (record { fits = are .0 .0 .1 .0 }, tt))) $ takes ! 6 refl (tt, (tt, (record { fits = are .1 .0 .0 .1 .0 }, tt))) $
         takes ! 4 refl (tt, record { fits = are .1 .1 .0 .1 }) $ takes ! 2 refl (tt, (tt, (record { fits = are .1 .1 .1 .0 .0 .1 .0 }, tt))) $ pass0 ! $
         -- [_5; …; _0; …; the three tokens; true; the times; the arrows; m; the plan; true]: `check_plan`
-        move ! (span 12 9) $ asks ! 𝓣 known-check ((κs, qs, tt, a, vs), tt) (id⊢ 𝓤 _) refl (λ r _. Checked r) (λ r _. id⊢ 𝓤 _)
+        move ! (span 12 9) $ asks ! 𝓣 known-check Entered (id⊢ 𝓤 _) refl (λ r _. Checked r) (λ r _. id⊢ 𝓤 _)
         (passing ! 9 refl (passing ! 7 refl (passing ! 5 refl (passing ! 3 refl (no-more !))))) (λ w₅ r _ e is₅.
         -- [the tokens; true; the reply; nothing; _5; …; _0; …]: `flatten_end`
         sets-result ! 6 refl (EL.lawful E.the-type E′.the-laws 𝓤 H A W tt .typed r _ is₅ .0) $ nothing ! $ nothing ! $ move ! (0 ∷ 6 ∷ 1 ∷ []) $
@@ -62,7 +59,8 @@ module _ {M : Type 1} (𝓤 : URA M) (H : Heap 𝓤) (A : Atoms 𝓤) (W : Given
 
   meets : Meets 𝓤 H A f.signature (WpFn 𝓤 H (𝓣 .C) (𝓣 .Λ) code.function) (f.spec 𝓤 H A mem run)
   meets = met-by 𝓤 H A W f.ended (dropped f.ended) promised code.function 𝓣
-      (dropped-go 𝓤 H A W f.ended (λ κs x w. refl, (λ κs x w. refl, (λ κs x w. refl, (λ κs x w. refl, tt))))) check-spells check-tells (λ κs qs bounds a g are. via 𝓤 _ (fst∗ 𝓤 _ (emp 𝓤)) (walk κs qs a are))
+      (dropped-go 𝓤 H A W f.ended (λ κs x w. refl, (λ κs x w. refl, (λ κs x w. refl, (λ κs x w. refl, tt)))))
+      check-spells check-tells (λ κs qs bounds a g are. via 𝓤 _ (fst∗ 𝓤 _ (emp 𝓤)) (walk κs qs a are))
 
 pub zul-check-plan-spec : {M : Type 1} → stated.statement M
 unfolding code.routine tablesOf

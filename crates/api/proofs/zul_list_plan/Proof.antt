@@ -3,8 +3,8 @@
 -- Assumes nothing.
 use Rattle.plans.proofs.Walking.{_≡_, refl, List, [], _∷_, URA, WpFn, Heap, Tables, Atoms, Given, _$_, move, drop, fsplit, feqL, _∵_, !, by, keep, group}
 use Rattle.plans.proofs.Walking.{look, stop, from, load, and-then, hop, fld, addr, returns, enter, params1, pass0, no-more, mem, SProp, emp, id⊢, via, fst∗}
-use Rattle.plans.proofs.Walking.{Lfts, Shares, Fun, factI, nothing, Args, Vals, Clauses, Meets, walkOf, finally, Memory, Routine, tablesOf, givenOf, tables}
-use Rattle.plans.proofs.Walking.{whole, sub, look-in, agg, entered, cited, RefT}
+use Rattle.plans.proofs.Walking.{Lfts, Shares, Fun, factI, nothing, Args, Clauses, Meets, walkOf, finally, Memory, Routine, tablesOf, givenOf, tables, whole}
+use Rattle.plans.proofs.Walking.{sub, look-in, agg, entered, cited, RefT}
 use Rattle.plans.proofs.Locals.{span, locals, allocated, let-go, takes, passing, sets, sets-result, held}
 use Rattle.plans.proofs.Asking.{begins, spelling, Spelled, Known, asks, ends, Walk, met-by}
 use Rattle.plans.proofs.Lending.{Row, list-spells, list-tells, list-stay, list-go, list-had}
@@ -36,11 +36,8 @@ module _ {M : Type 1} (𝓤 : URA M) (H : Heap 𝓤) (A : Atoms 𝓤) (W : Given
   promised = f.clauses 𝓤 H A mem run
 
   module _ (κs : Lfts 4) (qs : Shares 4) (a : Args f.signature κs) (are : Spelled f.ended list-spells κs a) where
-    abbrev vs : Vals f.signature κs
-    vs = spelling f.ended list-spells κs a
-
     abbrev Entered : walkOf 𝓤 H A f.ended list-stay promised .Ghost
-    Entered = ((κs, qs, tt, a, vs), tt)
+    Entered = ((κs, qs, tt, a, spelling f.ended list-spells κs a), tt)
 
     abbrev plan : RefT (List Entry)
     plan = a .1 .1 .1 .1 .0
@@ -50,7 +47,7 @@ module _ {M : Type 1} (𝓤 : URA M) (H : Heap 𝓤) (A : Atoms 𝓤) (W : Given
 
     walk : Walk 𝓤 H A W f.ended list-stay promised code.function 𝓣 Entered
     walk =
-        begins 𝓤 H A W f.signature κs qs a vs ∵ enter ! (𝓣 .C) (𝓣 .Λ) code.function _ _ $ allocated ! (λ l. params1 ! $
+        begins 𝓤 H A W f.signature κs qs a _ ∵ enter ! (𝓣 .C) (𝓣 .Λ) code.function _ _ $ allocated ! (λ l. params1 ! $
         takes ! 14 refl (tt, (tt, (record { fits = are .0 .0 .1 .0 }, tt))) $ takes ! 12 refl (tt, (tt, (record { fits = are .1 .0 .0 .1 .0 }, tt))) $
         takes ! 10 refl (tt, record { fits = are .1 .1 .0 .1 }) $ takes ! 8 refl (tt, (tt, (record { fits = are .1 .1 .1 .0 .0 .1 .0 }, tt))) $
         takes ! 6 refl (tt, (tt, (record { fits = are .1 .1 .1 .1 .0 .0 .1 .0 }, tt))) $ pass0 ! $
@@ -58,7 +55,7 @@ module _ {M : Type 1} (𝓤 : URA M) (H : Heap 𝓤) (A : Atoms 𝓤) (W : Given
         sets ! (agg ! (passing ! 2 refl (and-then ! (load ! (from ! (fld ! refl (stop !))) (look-in ! 6 (sub ! 1 refl (whole !)))) (no-more !)))) 0 refl
         (tt, (tt, (record { fits = are .1 .1 .1 .1 .0 .0 .1 .0 }, tt))) $
         -- [_8; …; _0; …; the four tokens; true; the times; the arrows; m; the order; the plan; true]: `list_plan`
-        move ! (span 18 11) $ asks ! 𝓣 known-list ((κs, qs, tt, a, vs), tt) (id⊢ 𝓤 _) refl (λ r zs. Listed (zs .1 .1 .1 .1 .0) r) (λ r zs. id⊢ 𝓤 _)
+        move ! (span 18 11) $ asks ! 𝓣 known-list Entered (id⊢ 𝓤 _) refl (λ r zs. Listed (zs .1 .1 .1 .1 .0) r) (λ r zs. id⊢ 𝓤 _)
         (passing ! 15 refl (passing ! 13 refl (passing ! 11 refl (passing ! 9 refl (passing ! 1 refl (no-more !)))))) (λ w₆ r zs e is₆.
         -- [the tokens; true; the reply; the last values; _8; …; _0; …]
         move ! (6 ∷ []) $ fsplit ! $ drop ! $ fsplit ! $ drop ! $ fsplit ! $ drop ! $ fsplit ! $ drop ! $ fsplit ! $ fsplit ! $

@@ -2,10 +2,10 @@
 -- All that it knows of `fit`, `blank`, `copy_in` and `check_table` is that each meets its contract. What the rows own goes to the callees;
 -- what a number or a table owns is made anew where a callee asks for it.
 -- Assumes nothing.
-use Rattle.plans.proofs.Walking.{_≡_, refl, subst, ℕ, _<_, _≤_, _^_, List, [], _∷_, length, URA, w64, vint, WpFn, Heap, Tables, Atoms, Given, _$_}
-use Rattle.plans.proofs.Walking.{move, drop, _∵_, !, by, keep, group, look, stop, from, load, fld, of-opd, returns, enter, params1, pass0, no-more}
-use Rattle.plans.proofs.Walking.{mem, SProp, emp, id⊢, via, fst∗, Lfts, Shares, Fun, factI, nothing, Args, Vals, Clauses, Meets, walkOf, uint-lawful}
-use Rattle.plans.proofs.Walking.{Memory, Routine, tablesOf, givenOf, tables, whole, sub, look-in, entered, cited}
+use Rattle.plans.proofs.Walking.{_≡_, refl, subst, ℕ, _<_, _≤_, _^_, List, [], _∷_, length, URA, w64, WpFn, Heap, Tables, Atoms, Given, _$_, move}
+use Rattle.plans.proofs.Walking.{drop, _∵_, !, by, keep, group, look, stop, from, load, fld, of-opd, returns, enter, params1, pass0, no-more, mem}
+use Rattle.plans.proofs.Walking.{SProp, emp, id⊢, via, fst∗, Lfts, Shares, Fun, factI, nothing, Args, Clauses, Meets, walkOf, uint-lawful, Memory}
+use Rattle.plans.proofs.Walking.{Routine, tablesOf, givenOf, tables, whole, sub, look-in, entered, cited}
 use Rattle.plans.proofs.Locals.{locals, allocated, let-go, takes, passing, sets, sets-result, held}
 use Rattle.plans.proofs.Asking.{begins, spelling, Spelled, Known, asks, dropped, dropped-go, ends-dropped, Walk, met-by}
 use Rattle.plans.proofs.Lending.{has-word, has-table, table-typed, check-spells, check-tells}
@@ -57,11 +57,8 @@ module _ {M : Type 1} (𝓤 : URA M) (H : Heap 𝓤) (A : Atoms 𝓤) (W : Given
     abbrev n : ℕ
     n = length plan
 
-    abbrev vs : Vals f.signature κs
-    vs = spelling f.ended check-spells κs a
-
     abbrev Entered : walkOf 𝓤 H A f.ended (dropped f.ended) promised .Ghost
-    Entered = ((κs, qs, tt, a, vs), tt)
+    Entered = ((κs, qs, tt, a, spelling f.ended check-spells κs a), tt)
 
     room : n < 2 ^ 64
     room = are .1 .1 .1 .0 .0 .1 .0
@@ -71,22 +68,24 @@ module _ {M : Type 1} (𝓤 : URA M) (H : Heap 𝓤) (A : Atoms 𝓤) (W : Given
 
     walk : Walk 𝓤 H A W f.ended (dropped f.ended) promised code.function 𝓣 Entered
     walk =
-        begins 𝓤 H A W f.signature κs qs a vs ∵ enter ! (𝓣 .C) (𝓣 .Λ) code.function _ _ $ allocated ! (λ l. params1 ! $
+        begins 𝓤 H A W f.signature κs qs a _ ∵ enter ! (𝓣 .C) (𝓣 .Λ) code.function _ _ $ allocated ! (λ l. params1 ! $
         takes ! 14 refl (tt, (tt, (record { fits = are .0 .0 .1 .0 }, tt))) $ takes ! 12 refl (tt, (tt, (record { fits = are .1 .0 .0 .1 .0 }, tt))) $
         takes ! 10 refl (tt, record { fits = are .1 .1 .0 .1 }) $ takes ! 8 refl (tt, (tt, (record { fits = room }, tt))) $ pass0 ! $
         sets ! (of-opd ! (load ! (from ! (fld ! refl (stop !))) (look-in ! 8 (sub ! 1 refl (whole !))))) 6 refl (tt, record { fits = room }) $
         -- [_8; …; _0; …; the three tokens; true; the times; the arrows; m; the plan; true]: `fit`
-        nothing ! $ has-word ! n (refl, room) $ nothing ! $ asks ! 𝓣 known-fit ((tt, tt, tt, (n, tt), (vint w64 n ∷ [], tt)), tt) (id⊢ 𝓤 _) refl (λ k _. Fitted k) (λ k _. id⊢ 𝓤 _)
+        nothing ! $ has-word ! n (refl, room) $ nothing ! $ asks ! 𝓣 known-fit ((tt, tt, tt, (n, tt), (_, tt)), tt) (id⊢ 𝓤 _) refl (λ k _. Fitted k) (λ k _. id⊢ 𝓤 _)
         (passing ! 7 refl (no-more !)) (λ w₇ k _ h is₇. drop ! $ drop ! $ drop ! $ sets-result ! 2 refl (uint-lawful 𝓤 H A W w64 .typed k _ is₇ .0) $
         -- `blank`
         nothing ! $ nothing ! $ asks ! 𝓣 known-blank ((tt, tt, tt, tt, tt), tt) (id⊢ 𝓤 _) refl (λ t _. Unit {0}) (λ t _. factI 𝓤 (Unit {0}) _ tt)
         (no-more !) (λ w₈ t _ _ is₈. drop ! $ drop ! $ drop ! $ sets-result ! 0 refl (table-typed 𝓤 H A W t w₈ is₈) $
         -- `copy_in`
         nothing ! $ has-table ! t is₈ $ has-word ! k is₇ $
-        move ! (23 ∷ 24 ∷ 28 ∷ 0 ∷ 1 ∷ 2 ∷ []) $ asks ! 𝓣 known-in (((κs .1 .1 .0, tt), (qs .1 .1 .0, tt), tt, (a .1 .1 .1 .0, (k, (t, tt))), (vs .1 .1 .1 .0, (w₇ ∷ [], (w₈ ∷ [], tt)))), tt) (factI 𝓤 _ (emp 𝓤) (h .0, h .1)) refl (λ u _. u ≡ over k plan t) (λ u _. id⊢ 𝓤 _)
+        move ! (23 ∷ 24 ∷ 28 ∷ 0 ∷ 1 ∷ 2 ∷ []) $ asks ! 𝓣 known-in (((_, tt), (_, tt), tt, (a .1 .1 .1 .0, (k, (t, tt))), (_, (_, (_, tt)))), tt)
+        (factI 𝓤 _ (emp 𝓤) (h .0, h .1)) refl (λ u _. u ≡ over k plan t) (λ u _. id⊢ 𝓤 _)
         (passing ! 9 refl (passing ! 3 refl (passing ! 1 refl (no-more !)))) (λ w₆ u _ e is₆. sets-result ! 8 refl (table-typed 𝓤 H A W u w₆ is₆) $
         -- [the third token; true; what the table owns; nothing; _8; …; _0; …; the first two tokens; the times; the arrows; m; true]: `check_table`
-        has-word ! n (refl, room) $ move ! (23 ∷ 24 ∷ 2 ∷ 25 ∷ 26 ∷ 27 ∷ 3 ∷ 0 ∷ 28 ∷ []) $ asks ! 𝓣 known-check (((κs .0, (κs .1 .0, tt)), (qs .0, (qs .1 .0, tt)), tt, (a .0, (a .1 .0, (m, (u, (n, tt))))), (vs .0, (vs .1 .0, (vs .1 .1 .0, (w₆ ∷ [], (vint w64 n ∷ [], tt)))))), tt) (id⊢ 𝓤 _) refl
+        has-word ! n (refl, room) $ move ! (23 ∷ 24 ∷ 2 ∷ 25 ∷ 26 ∷ 27 ∷ 3 ∷ 0 ∷ 28 ∷ []) $
+        asks ! 𝓣 known-check (((_, (_, tt)), (_, (_, tt)), tt, (a .0, (a .1 .0, (m, (u, (n, tt))))), (_, (_, (_, (_, (_, tt)))))), tt) (id⊢ 𝓤 _) refl
         (λ r _. ChecksTable times arrows m u n r) (λ r _. id⊢ 𝓤 _)
         (passing ! 17 refl (passing ! 15 refl (passing ! 13 refl (passing ! 7 refl (passing ! 9 refl (no-more !)))))) (λ w r _ e₀ is.
         -- [two tokens; true; the reply; nothing; the third token; nothing; _8; …; _0; …]
@@ -98,7 +97,8 @@ module _ {M : Type 1} (𝓤 : URA M) (H : Heap 𝓤) (A : Atoms 𝓤) (W : Given
 
   meets : Meets 𝓤 H A f.signature (WpFn 𝓤 H (𝓣 .C) (𝓣 .Λ) code.function) (f.spec 𝓤 H A mem run)
   meets = met-by 𝓤 H A W f.ended (dropped f.ended) promised code.function 𝓣
-      (dropped-go 𝓤 H A W f.ended (λ κs x w. refl, (λ κs x w. refl, (λ κs x w. refl, (λ κs x w. refl, tt))))) check-spells check-tells (λ κs qs bounds a g are. via 𝓤 _ (fst∗ 𝓤 _ (emp 𝓤)) (walk κs qs a are))
+      (dropped-go 𝓤 H A W f.ended (λ κs x w. refl, (λ κs x w. refl, (λ κs x w. refl, (λ κs x w. refl, tt)))))
+      check-spells check-tells (λ κs qs bounds a g are. via 𝓤 _ (fst∗ 𝓤 _ (emp 𝓤)) (walk κs qs a are))
 
 pub check-plan-spec : {M : Type 1} → stated.statement M
 unfolding code.routine tablesOf

@@ -1,11 +1,11 @@
 -- `plans::list_plan` meets its contract: a walk of its MIR, by hand. All that it knows of `draft_plan` and `copy_out` is that each meets its contract.
 -- The row is given up for good to `copy_out` (`gave-slice`), which says its last list.
 -- Assumes nothing.
-use Rattle.plans.proofs.Walking.{_≡_, refl, sym, subst, _∙_, ap, ℕ, _<_, _≤_, _^_, List, [], _∷_, map, length, length-map, URA, fullShare, w64, Val}
-use Rattle.plans.proofs.Walking.{vint, fat, WpFn, Heap, Tables, Atoms, Given, ‵, _$_, move, rewrite, fsplit, feqL, _∵_, !, by, keep, group, look, stop}
-use Rattle.plans.proofs.Walking.{from, load, and-then, hop, fld, addr, of-opd, returns, enter, params1, pass0, no-more, mem, each, SProp, emp, id⊢}
-use Rattle.plans.proofs.Walking.{via, fst∗, Lfts, Shares, Fun, factI, Is, nothing, owned, only, Args, Vals, Clauses, Meets, walkOf, nothing-lawful}
-use Rattle.plans.proofs.Walking.{finally, Memory, Routine, tablesOf, givenOf, tables, whole, sub, look-in, agg, entered, cited, shadow}
+use Rattle.plans.proofs.Walking.{_≡_, refl, sym, subst, _∙_, ap, ℕ, _<_, _≤_, _^_, List, [], _∷_, map, length, length-map, URA, fullShare, Val, fat}
+use Rattle.plans.proofs.Walking.{WpFn, Heap, Tables, Atoms, Given, ‵, _$_, move, rewrite, fsplit, feqL, _∵_, !, by, keep, group, look, stop, from}
+use Rattle.plans.proofs.Walking.{load, and-then, hop, fld, addr, of-opd, returns, enter, params1, pass0, no-more, mem, each, SProp, emp, id⊢, via}
+use Rattle.plans.proofs.Walking.{fst∗, Lfts, Shares, Fun, factI, Is, nothing, owned, only, Args, Clauses, Meets, walkOf, nothing-lawful, finally}
+use Rattle.plans.proofs.Walking.{Memory, Routine, tablesOf, givenOf, tables, whole, sub, look-in, agg, entered, cited, shadow}
 use Rattle.plans.proofs.Locals.{locals, allocated, let-go, takes, passing, sets, sets-result, held}
 use Rattle.plans.proofs.Asking.{begins, spelling, Spelled, Known, asks, ends, Walk, met-by}
 use Rattle.plans.proofs.Lending.{Row, Table, has-word, has-table, list-spells, list-tells, list-stay, list-go, list-had}
@@ -73,34 +73,23 @@ module _ {M : Type 1} (𝓤 : URA M) (H : Heap 𝓤) (A : Atoms 𝓤) (W : Given
     abbrev n : ℕ
     n = length plan
 
-    abbrev vs : Vals f.signature κs
-    vs = spelling f.ended list-spells κs a
-
     abbrev Entered : walkOf 𝓤 H A f.ended list-stay promised .Ghost
-    Entered = ((κs, qs, tt, a, vs), tt)
+    Entered = ((κs, qs, tt, a, spelling f.ended list-spells κs a), tt)
 
     room : n < 2 ^ 64
     room = are .1 .1 .1 .1 .0 .0 .1 .0
 
     walk : Walk 𝓤 H A W f.ended list-stay promised code.function 𝓣 Entered
     walk =
-        begins 𝓤 H A W f.signature κs qs a vs ∵ enter ! (𝓣 .C) (𝓣 .Λ) code.function _ _ $ allocated ! (λ l. params1 ! $
+        begins 𝓤 H A W f.signature κs qs a _ ∵ enter ! (𝓣 .C) (𝓣 .Λ) code.function _ _ $ allocated ! (λ l. params1 ! $
         takes ! 18 refl (tt, (tt, (record { fits = are .0 .0 .1 .0 }, tt))) $ takes ! 16 refl (tt, (tt, (record { fits = are .1 .0 .0 .1 .0 }, tt))) $
         takes ! 14 refl (tt, record { fits = are .1 .1 .0 .1 }) $ takes ! 12 refl (tt, (tt, (record { fits = are .1 .1 .1 .0 .0 .1 .0 }, tt))) $
         takes ! 10 refl (tt, (tt, (record { fits = room }, tt))) $ pass0 ! $
         sets ! (of-opd ! (load ! (from ! (fld ! refl (stop !))) (look-in ! 10 (sub ! 1 refl (whole !))))) 8 refl (tt, record { fits = room }) $
         -- [_10; …; _0; …; the four tokens; true; the times; the arrows; m; the order; the plan; true]: `draft_plan`
-        nothing ! $ has-word ! n (refl, room) $
-        move ! (24 ∷ 25 ∷ 26 ∷ 28 ∷ 29 ∷ 30 ∷ 31 ∷ 32 ∷ 0 ∷ 1 ∷ []) $ asks ! 𝓣 known-decide (
-          (
-            (κs .0, (κs .1 .0, (κs .1 .1 .0, tt))),
-            (qs .0, (qs .1 .0, (qs .1 .1 .0, tt))),
-            tt,
-            (a .0, (a .1 .0, (m, (a .1 .1 .1 .0, (n, tt))))),
-            (vs .0, (vs .1 .0, (vs .1 .1 .0, (vs .1 .1 .1 .0, (vint w64 n ∷ [], tt))))),
-          ),
-          tt,
-        ) (id⊢ 𝓤 _) refl (λ d _. IsDraft times arrows m order n d) (λ d _. id⊢ 𝓤 _)
+        nothing ! $ has-word ! n (refl, room) $ move ! (24 ∷ 25 ∷ 26 ∷ 28 ∷ 29 ∷ 30 ∷ 31 ∷ 32 ∷ 0 ∷ 1 ∷ []) $
+        asks ! 𝓣 known-decide (((_, (_, (_, tt))), (_, (_, (_, tt))), tt, (a .0, (a .1 .0, (m, (a .1 .1 .1 .0, (n, tt))))), (_, (_, (_, (_, (_, tt)))))), tt)
+        (id⊢ 𝓤 _) refl (λ d _. IsDraft times arrows m order n d) (λ d _. id⊢ 𝓤 _)
         (passing ! 19 refl (passing ! 17 refl (passing ! 15 refl (passing ! 13 refl (passing ! 9 refl (no-more !)))))) (λ w₆ d _ h is.
         -- [three tokens; true; the draft; nothing; _10; …; _0; …; the fourth token; the plan; true]
         -- the draft's machine value is spelled out, so that its fields can be read
@@ -112,7 +101,8 @@ module _ {M : Type 1} (𝓤 : URA M) (H : Heap 𝓤) (A : Atoms 𝓤) (W : Given
         -- `copy_out`
         nothing ! $ has-word ! (d .n) (LL.owed D.the-type D′.the-laws d _ is .1 .1 .0) $
         has-table ! (d .entries) (table-is d _ is) $ move ! (31 ∷ 33 ∷ 32 ∷ 0 ∷ 1 ∷ 2 ∷ []) $
-        asks ! 𝓣 known-out (((κs .1 .1 .1 .0, tt), (qs .1 .1 .1 .0, tt), tt, (a .1 .1 .1 .1 .0, (d .entries, (d .n, tt))), (vs .1 .1 .1 .1 .0, (tv d ∷ [], (vint w64 (d .n) ∷ [], tt)))), tt) (factI 𝓤 _ (emp 𝓤) (fits times arrows m order n (d .entries) (d .n) (d .reply) (h .drafted))) refl
+        asks ! 𝓣 known-out (((_, tt), (_, tt), tt, (a .1 .1 .1 .1 .0, (d .entries, (d .n, tt))), (_, (_, (_, tt)))), tt)
+        (factI 𝓤 _ (emp 𝓤) (fits times arrows m order n (d .entries) (d .n) (d .reply) (h .drafted))) refl
         (λ u zs. zs .0 ≡ over (d .n) (d .entries) plan) (λ u zs. id⊢ 𝓤 _)
         (passing ! 7 refl (and-then ! (load ! (from ! (fld ! refl (stop !))) (look-in ! 13 (sub ! 1 refl (whole !))))
         (and-then ! (load ! (from ! (fld ! refl (stop !))) (look-in ! 13 (sub ! 2 refl (whole !)))) (no-more !)))) (λ w₇ u zs e is₇.
