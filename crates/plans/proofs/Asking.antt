@@ -4,8 +4,8 @@
 use Rattle.plans.proofs.Walking.{_≡_, sym, subst, ℕ, zero, suc, List, [], _∷_, _++_, URA, Operand, Body, seq, Name, Place, call, Fn, Val, Fml, ftrue}
 use Rattle.plans.proofs.Walking.{flft, WpFn, Heap, Env, Calls, Tables, Atoms, sem, Given, Item, ‵, Seq, _$_, move, use1, Post, runs, lands, raw, some}
 use Rattle.plans.proofs.Walking.{later, _⊛_, ⋆, pop, push, ++⊢, ⊢++, prop, Sq, _∵_, !, qed, by, cut, split, pick, await, Opds, RattleType, Denots}
-use Rattle.plans.proofs.Walking.{Valss, owns, T, SProp, ent, sep, emp, id⊢, via, comm∗, assoc′, mono∗, monoL, monoR, emp∗, Lfts, Shares, AllOutlive}
-use Rattle.plans.proofs.Walking.{toks, fact, Fun, WpFn-mono, fmOf, Is, Ises, Are, Spells, Tellss, valss, shows, heard, peeks, nothing, Slot, Signature}
+use Rattle.plans.proofs.Walking.{Valss, owns, SProp, ent, sep, emp, id⊢, via, comm∗, assoc′, mono∗, monoL, monoR, emp∗, Lfts, Shares, AllOutlive, toks}
+use Rattle.plans.proofs.Walking.{fact, Fun, WpFn-mono, fmOf, Is, Ises, Are, Spells, Tellss, valss, shows, heard, peeks, nothing, Slot, Signature}
 use Rattle.plans.proofs.Walking.{typeAt, typesAt, Args, Vals, Res, alive, onEntry, calls-at, Ended, Clauses, Lasts, atExit, lasts, closing, Kepts}
 use Rattle.plans.proofs.Walking.{Fins, Meets, tripleOf, Contract, Triple, Stays, stay-dropped, Silent, AllGo, goes-dropped, hasOf, Fit, walkOf, Ending}
 use Rattle.plans.proofs.Walking.{ends-at, walked, walk-meets}

@@ -1,18 +1,29 @@
 -- What the loops share that copy entries, one in each turn: an entry is taken out of its row, put back, or written over with the next one that is copied.
 -- Assumes `Given`.
-use Rattle.plans.proofs.Walking.{refl, ℕ, _+_, _<_, _≤_, List, [], _∷_, length, getD, URA, fullShare, Body, Val, hasTy, WT, Share, Fml, afterTurn}
+use Rattle.plans.proofs.Walking.{refl, _-_, ℕ, _+_, _<_, _≤_, List, [], _∷_, length, getD, URA, fullShare, Body, Val, hasTy, WT, Share, Fml, afterTurn}
 use Rattle.plans.proofs.Walking.{Heap, Env, Tables, Out, Wp, afterSeq, afterBlock, atReturn, Atoms, Goal, Given, Item, ‵, Seq, Step, step, _$_, move}
-use Rattle.plans.proofs.Walking.{drop, rewrite, Post, runs, anyQ, Below, cellAt, shares, mem, row, others, offset, elem-out, elem-back, elem-put, T}
-use Rattle.plans.proofs.Walking.{SProp, Is, shows, owned, arith}
+use Rattle.plans.proofs.Walking.{drop, rewrite, runs, anyQ, Below, cellAt, shares, mem, row, others, offset, elem-out, elem-back, elem-put, T, SProp}
+use Rattle.plans.proofs.Walking.{Is, shows, owned, arith}
 use Rattle.plans.proofs.Lending.{Row}
 use Rattle.plans.proofs.Over.{over-length, over-next}
-use Rattle.plans.proofs.Upto.{Upto, Nearer}
 use denote.Struct.Laws as LL
+use mathlib.Core.WellFounded.{WellFounded, InvImage·wf}
+use lib.WfN.{Nat·lt-wfRel}
 use Rattle.terms.specs.declared.Entry.{Entry}
 use Rattle.terms.specs.Plans.{notPlaced}
 use Rattle.plans.specs.Copies.{over}
 use Rattle.terms.proofs.Entry as T
 use Rattle.terms.proofs.Entry.Laws as T′
+
+-- how far such a loop has come, and that fewer entries are left after each turn
+abbrev pub Upto : ℕ → Type 0
+Upto n = (i : ℕ) × (i ≤ n)
+
+abbrev pub Nearer : (n : ℕ) → Upto n → Upto n → Type 0
+Nearer n j i = n - j .0 < n - i .0
+
+pub nearer-ends : (n : ℕ) → WellFounded (Nearer n)
+nearer-ends n = InvImage·wf (λ (i : Upto n). n - i .0) (Nat·lt-wfRel .wf)
 
 -- entry i of a row, and its machine value
 abbrev pub at : List Entry → ℕ → Entry

@@ -5,5 +5,4 @@ pub mod Asking
 pub mod Copying
 pub mod Lending
 pub mod Over
-pub mod Upto
 pub mod Rows

@@ -1,8 +1,8 @@
 -- `zul_check_plan` meets its contract: a walk of its MIR, by hand. All that it knows of `check_plan` and `flatten_end` is that each meets its contract.
 -- Assumes nothing.
 use Rattle.plans.proofs.Walking.{_≡_, refl, [], _∷_, URA, WpFn, Heap, Tables, Atoms, Given, _$_, move, _∵_, !, by, keep, group, look, returns, enter, params1}
-use Rattle.plans.proofs.Walking.{pass0, no-more, mem, SProp, emp, id⊢, via, fst∗, Lfts, Shares, Fun, factI, nothing, Args, Clauses, Meets, walkOf, Memory}
-use Rattle.plans.proofs.Walking.{Routine, tablesOf, givenOf, tables, entered, cited}
+use Rattle.plans.proofs.Walking.{pass0, no-more, SProp, emp, id⊢, via, fst∗, Lfts, Shares, Fun, factI, nothing, Args, Clauses, Meets, walkOf, Memory, Routine}
+use Rattle.plans.proofs.Walking.{tablesOf, givenOf, tables, entered, cited}
 use Rattle.plans.proofs.Locals.{span, locals, allocated, let-go, takes, passing, sets-result, held}
 use Rattle.plans.proofs.Asking.{begins, spelling, Spelled, Known, asks, dropped, dropped-go, ends-dropped, Walk, met-by}
 use Rattle.plans.proofs.Lending.{check-spells, check-tells}

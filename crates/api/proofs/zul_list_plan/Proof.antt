@@ -2,9 +2,9 @@
 -- The plan's row is given up for good to `list_plan` (`gave-slice`), which says its last list.
 -- Assumes nothing.
 use Rattle.plans.proofs.Walking.{_≡_, refl, List, [], _∷_, URA, WpFn, Heap, Tables, Atoms, Given, _$_, move, drop, fsplit, feqL, _∵_, !, by, keep, group}
-use Rattle.plans.proofs.Walking.{look, stop, from, load, and-then, hop, fld, addr, returns, enter, params1, pass0, no-more, mem, SProp, emp, id⊢, via, fst∗}
-use Rattle.plans.proofs.Walking.{Lfts, Shares, Fun, factI, nothing, Args, Clauses, Meets, walkOf, finally, Memory, Routine, tablesOf, givenOf, tables, whole}
-use Rattle.plans.proofs.Walking.{sub, look-in, agg, entered, cited, RefT}
+use Rattle.plans.proofs.Walking.{look, stop, from, load, and-then, hop, fld, addr, returns, enter, params1, pass0, no-more, SProp, emp, id⊢, via, fst∗, Lfts}
+use Rattle.plans.proofs.Walking.{Shares, Fun, factI, nothing, Args, Clauses, Meets, walkOf, finally, Memory, Routine, tablesOf, givenOf, tables, whole, sub}
+use Rattle.plans.proofs.Walking.{look-in, agg, entered, cited, RefT}
 use Rattle.plans.proofs.Locals.{span, locals, allocated, let-go, takes, passing, sets, sets-result, held}
 use Rattle.plans.proofs.Asking.{begins, spelling, Spelled, Known, asks, ends, Walk, met-by}
 use Rattle.plans.proofs.Lending.{Row, list-spells, list-tells, list-stay, list-go, list-had}

@@ -3,9 +3,9 @@
 -- what a number or a table owns is made anew where a callee asks for it.
 -- Assumes nothing.
 use Rattle.plans.proofs.Walking.{_≡_, refl, subst, ℕ, _<_, _≤_, _^_, List, [], _∷_, length, URA, w64, WpFn, Heap, Tables, Atoms, Given, _$_, move}
-use Rattle.plans.proofs.Walking.{drop, _∵_, !, by, keep, group, look, stop, from, load, fld, of-opd, returns, enter, params1, pass0, no-more, mem}
-use Rattle.plans.proofs.Walking.{SProp, emp, id⊢, via, fst∗, Lfts, Shares, Fun, factI, nothing, Args, Clauses, Meets, walkOf, uint-lawful, Memory}
-use Rattle.plans.proofs.Walking.{Routine, tablesOf, givenOf, tables, whole, sub, look-in, entered, cited}
+use Rattle.plans.proofs.Walking.{drop, _∵_, !, by, keep, group, look, stop, from, load, fld, of-opd, returns, enter, params1, pass0, no-more, SProp}
+use Rattle.plans.proofs.Walking.{emp, id⊢, via, fst∗, Lfts, Shares, Fun, factI, nothing, Args, Clauses, Meets, walkOf, uint-lawful, Memory, Routine}
+use Rattle.plans.proofs.Walking.{tablesOf, givenOf, tables, whole, sub, look-in, entered, cited}
 use Rattle.plans.proofs.Locals.{locals, allocated, let-go, takes, passing, sets, sets-result, held}
 use Rattle.plans.proofs.Asking.{begins, spelling, Spelled, Known, asks, dropped, dropped-go, ends-dropped, Walk, met-by}
 use Rattle.plans.proofs.Lending.{has-word, has-table, table-typed, check-spells, check-tells}
@@ -73,8 +73,8 @@ module _ {M : Type 1} (𝓤 : URA M) (H : Heap 𝓤) (A : Atoms 𝓤) (W : Given
         takes ! 10 refl (tt, record { fits = are .1 .1 .0 .1 }) $ takes ! 8 refl (tt, (tt, (record { fits = room }, tt))) $ pass0 ! $
         sets ! (of-opd ! (load ! (from ! (fld ! refl (stop !))) (look-in ! 8 (sub ! 1 refl (whole !))))) 6 refl (tt, record { fits = room }) $
         -- [_8; …; _0; …; the three tokens; true; the times; the arrows; m; the plan; true]: `fit`
-        nothing ! $ has-word ! n (refl, room) $ nothing ! $ asks ! 𝓣 known-fit ((tt, tt, tt, (n, tt), (_, tt)), tt) (id⊢ 𝓤 _) refl (λ k _. Fitted k) (λ k _. id⊢ 𝓤 _)
-        (passing ! 7 refl (no-more !)) (λ w₇ k _ h is₇. drop ! $ drop ! $ drop ! $ sets-result ! 2 refl (uint-lawful 𝓤 H A W w64 .typed k _ is₇ .0) $
+        nothing ! $ has-word ! n (refl, room) $ nothing ! $ asks ! 𝓣 known-fit ((tt, tt, tt, (n, tt), (_, tt)), tt) (id⊢ 𝓤 _) refl
+        (λ k _. Fitted k) (λ k _. id⊢ 𝓤 _) (passing ! 7 refl (no-more !)) (λ w₇ k _ h is₇. drop ! $ drop ! $ drop ! $ sets-result ! 2 refl (uint-lawful 𝓤 H A W w64 .typed k _ is₇ .0) $
         -- `blank`
         nothing ! $ nothing ! $ asks ! 𝓣 known-blank ((tt, tt, tt, tt, tt), tt) (id⊢ 𝓤 _) refl (λ t _. Unit {0}) (λ t _. factI 𝓤 (Unit {0}) _ tt)
         (no-more !) (λ w₈ t _ _ is₈. drop ! $ drop ! $ drop ! $ sets-result ! 0 refl (table-typed 𝓤 H A W t w₈ is₈) $

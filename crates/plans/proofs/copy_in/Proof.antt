@@ -7,7 +7,7 @@ use Rattle.plans.proofs.Walking.{fullShare, tyArray, Ty, named, w64, ty
 use Rattle.plans.proofs.Walking.{WpFn, afterTurn, Heap, Env, Tables, Atoms, Given, Item, ‵, _$_, move, drop, rewrite, fsplit, Sq, _∵_, !, by, atRet}
 use Rattle.plans.proofs.Walking.{keep, group, forget, look, stop, from, load, assigns, look-raw, store, store-raw, hop, fld, lit, addr, of-opd, bin}
 use Rattle.plans.proofs.Walking.{assigns-last, first, blocks, stays, leaves-loop, returns, enter, params1, pass0, exec, again, loops, arr-parts}
-use Rattle.plans.proofs.Walking.{shares, mem, row, place-is, looks-slice, shuts-slice, T, ltb, lit<, SProp, emp, Lfts, Shares, Fun, factI, Is, Spells}
+use Rattle.plans.proofs.Walking.{shares, row, place-is, looks-slice, shuts-slice, T, ltb, lit<, SProp, emp, Lfts, Shares, Fun, factI, Is, Spells}
 use Rattle.plans.proofs.Walking.{shows, peeks, nothing, only, typesAt, Args, Clauses, Meets, walkOf, needs, uint-vals, uint-tells, slice-vals}
 use Rattle.plans.proofs.Walking.{shr-slice-tells, sliceVal, arith, Bool, true, false, Memory, Routine, tablesOf, givenOf, tables, whole, sub, look-in}
 use Rattle.plans.proofs.Walking.{ltb-true, ltb-false, entered}
@@ -16,8 +16,7 @@ use Rattle.plans.proofs.Locals.{locals, Blocks, envOf, cells, allocated
 use Rattle.plans.proofs.Asking.{begins, spelling, Spelled, dropped, dropped-go, ends-dropped, Walk, met-by}
 use Rattle.plans.proofs.Lending.{Row, Table, table-vals, table-tells, table-typed}
 use Rattle.plans.proofs.Over.{over-length}
-use Rattle.plans.proofs.Upto.{Upto, Nearer, nearer-ends}
-use Rattle.plans.proofs.Copying.{at, entry-typed, Turn, turn, Turns, entry-out, entry-back, entry-copied}
+use Rattle.plans.proofs.Copying.{Upto, Nearer, nearer-ends, at, entry-typed, Turn, turn, Turns, entry-out, entry-back, entry-copied}
 use denote.Struct.Laws as LL
 use Rattle.terms.specs.declared.Entry.{Entry}
 use Rattle.plans.specs.Copies.{over}

@@ -7,8 +7,8 @@ use Rattle.plans.proofs.Walking.{URA, fullShare, tyArray, Ty, named, w6
 use Rattle.plans.proofs.Walking.{Fml, ftrue, flft, GName, fobs, fbor, WpFn, afterTurn, Heap, Env, Tables, Atoms, sem, Given, Item, ‵, _$_, move, drop}
 use Rattle.plans.proofs.Walking.{rewrite, fsplit, fjoin, feqI, Sq, _∵_, !, qed, by, done, atRet, keep, group, forget, look, stop, from, load, assigns}
 use Rattle.plans.proofs.Walking.{look-raw, store, store-raw, hop, fld, lit, addr, of-opd, bin, assigns-last, first, blocks, stays, leaves-loop}
-use Rattle.plans.proofs.Walking.{returns, enter, params1, pass0, exec, again, loops, unit-lit, mem, row, place-is, opens-slice, closes-slice, T, ltb}
-use Rattle.plans.proofs.Walking.{lit<, SProp, ent, emp, Lfts, Shares, Fun, factI, Spells, nothing, only, typesAt, plain, Args, Clauses, Meets, Stays}
+use Rattle.plans.proofs.Walking.{returns, enter, params1, pass0, exec, again, loops, unit-lit, row, place-is, opens-slice, closes-slice, T, ltb, lit<}
+use Rattle.plans.proofs.Walking.{SProp, ent, emp, Lfts, Shares, Fun, factI, Spells, nothing, only, typesAt, plain, Args, Clauses, Meets, Stays}
 use Rattle.plans.proofs.Walking.{stay-dropped, goes-dropped, walkOf, needs, stay-slice, goes-slice, uint-vals, uint-tells, usize, slice-vals}
 use Rattle.plans.proofs.Walking.{mut-slice-tells, sliceVal, MutSlice, Room, heres, codedHoleys, at-slice, yes, arith, Bool, true, false, Memory}
 use Rattle.plans.proofs.Walking.{Routine, tablesOf, givenOf, tables, whole, sub, look-in, ltb-true, ltb-false, entered, pureI, Held}
@@ -17,8 +17,7 @@ use Rattle.plans.proofs.Locals.{locals, Blocks, envOf, cells, allocated
 use Rattle.plans.proofs.Asking.{begins, spelling, Spelled, ends, Walk, met-by}
 use Rattle.plans.proofs.Lending.{Row, Table, table-vals, table-tells, table-typed}
 use Rattle.plans.proofs.Over.{over-length}
-use Rattle.plans.proofs.Upto.{Upto, Nearer, nearer-ends}
-use Rattle.plans.proofs.Copying.{at, entry-typed, Turn, turn, Turns, entry-out, entry-back, entry-copied}
+use Rattle.plans.proofs.Copying.{Upto, Nearer, nearer-ends, at, entry-typed, Turn, turn, Turns, entry-out, entry-back, entry-copied}
 use Rattle.terms.specs.declared.Entry.{Entry}
 use Rattle.plans.specs.Copies.{over}
 use Rattle.terms.proofs.Entry as T

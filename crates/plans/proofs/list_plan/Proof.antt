@@ -3,9 +3,9 @@
 -- Assumes nothing.
 use Rattle.plans.proofs.Walking.{_≡_, refl, sym, subst, _∙_, ap, ℕ, _<_, _≤_, _^_, List, [], _∷_, map, length, length-map, URA, fullShare, Val, fat}
 use Rattle.plans.proofs.Walking.{WpFn, Heap, Tables, Atoms, Given, ‵, _$_, move, rewrite, fsplit, feqL, _∵_, !, by, keep, group, look, stop, from}
-use Rattle.plans.proofs.Walking.{load, and-then, hop, fld, addr, of-opd, returns, enter, params1, pass0, no-more, mem, each, SProp, emp, id⊢, via}
-use Rattle.plans.proofs.Walking.{fst∗, Lfts, Shares, Fun, factI, Is, nothing, owned, only, Args, Clauses, Meets, walkOf, nothing-lawful, finally}
-use Rattle.plans.proofs.Walking.{Memory, Routine, tablesOf, givenOf, tables, whole, sub, look-in, agg, entered, cited, shadow}
+use Rattle.plans.proofs.Walking.{load, and-then, hop, fld, addr, of-opd, returns, enter, params1, pass0, no-more, each, SProp, emp, id⊢, via, fst∗}
+use Rattle.plans.proofs.Walking.{Lfts, Shares, Fun, factI, Is, nothing, owned, only, Args, Clauses, Meets, walkOf, nothing-lawful, finally, Memory}
+use Rattle.plans.proofs.Walking.{Routine, tablesOf, givenOf, tables, whole, sub, look-in, agg, entered, cited, shadow}
 use Rattle.plans.proofs.Locals.{locals, allocated, let-go, takes, passing, sets, sets-result, held}
 use Rattle.plans.proofs.Asking.{begins, spelling, Spelled, Known, asks, ends, Walk, met-by}
 use Rattle.plans.proofs.Lending.{Row, Table, has-word, has-table, list-spells, list-tells, list-stay, list-go, list-had}
