@@ -191,7 +191,8 @@ module _ {M : Type 1} (𝓤 : URA M) (H : Heap 𝓤) (A : Atoms 𝓤) (W : Given
     pub met-by : (𝓣 : Tables 𝓤 H) → AllGo 𝓤 H A W (lives T) (T .signature .params) (T .kept) hs
         → (sp : (κs : Lfts (lives T)) → Spells (Types T κs)) → ((κs : Lfts (lives T)) → Tellss (Types T κs) (Ises (Types T κs)) (sp κs))
         → ((κs : Lfts (lives T)) (qs : Shares (lives T)) (ok : AllOutlive (lives T) (T .signature .outlives) κs) (a : Args (T .signature) κs)
-        (g : c κs a .ghost) → Spelled T sp κs a → ent 𝓤 (walkOf 𝓤 H A T hs c .pre ((κs, qs, ok, a, spelling T sp κs a), g)) (Runs 𝓣 ((κs, qs, ok, a, spelling T sp κs a), g)))
+        (g : c κs a .ghost) → Spelled T sp κs a
+        → ent 𝓤 (walkOf 𝓤 H A T hs c .pre ((κs, qs, ok, a, spelling T sp κs a), g)) (Runs 𝓣 ((κs, qs, ok, a, spelling T sp κs a), g)))
         → Meets 𝓤 H A (T .signature) (WpFn 𝓤 H (𝓣 .C) (𝓣 .Λ) fn) (closing 𝓤 H A T c)
     met-by 𝓣 gs sp tl k =
         let run : Fun 𝓤 = WpFn 𝓤 H (𝓣 .C) (𝓣 .Λ) fn in

@@ -11,10 +11,11 @@ use Rattle.terms.specs.declared.Entry.{Entry}
 use Rattle.terms.proofs.Entry as entry
 use Rattle.terms.proofs.Entry.Laws as entryLaws
 
+-- an entry, an arrow and a table, as types, and how a table is spelled as a machine value
 abbrev pub Row : RattleType
 Row = entry.the-row
 
-abbrev pub Arrow : RattleType
+abbrev Arrow : RattleType
 Arrow = Array u16 2
 
 abbrev pub Table : RattleType
@@ -38,7 +39,8 @@ pub table-typed : {M : Type 1} (𝓤 : URA M) (H : Heap 𝓤) (A : Atoms 𝓤) �
     → Is Table t (v ∷ []) → T (hasTy (tyArray entryLaws.mir 256) v) × WT v
 table-typed 𝓤 H A W t v is = array-lawful 𝓤 H A W Row (LL.lawful entry.the-type entryLaws.the-laws 𝓤 H A W) 256 .typed t (v ∷ []) is .0
 
-abbrev pub CheckTypes : Lfts 3 → List RattleType
+-- what is lent to a plan check: the times, the arrows, m and the plan
+abbrev CheckTypes : Lfts 3 → List RattleType
 CheckTypes κs = ShrSlice (named 0) (κs .0) u16 ∷ ShrSlice (named 1) (κs .1 .0) Arrow ∷ u32 ∷ ShrSlice (named 2) (κs .1 .1 .0) Row ∷ []
 
 abbrev pub check-spells : (κs : Lfts 3) → Spells (CheckTypes κs)
@@ -48,12 +50,13 @@ pub check-tells : (κs : Lfts 3) → Tellss (CheckTypes κs) (Ises (CheckTypes �
 check-tells κs =
     (shr-slice-tells (named 0) (κs .0) u16, (shr-slice-tells (named 1) (κs .1 .0) Arrow, (uint-tells w32, (shr-slice-tells (named 2) (κs .1 .1 .0) Row, tt))))
 
-abbrev pub ListSlots : List (Slot 4)
+-- and to a list plan: the times, the arrows, m, the order, and the plan that is written
+abbrev ListSlots : List (Slot 4)
 ListSlots =
     shrSliceOf (0 ∷ []) tt (plain (λ _. u16)) ∷ shrSliceOf (1 ∷ []) tt (plain (λ _. Arrow)) ∷ plain (λ _. u32)
     ∷ shrSliceOf (2 ∷ []) tt (plain (λ _. u16)) ∷ mutSliceOf (3 ∷ []) tt (plain (λ _. Row)) ∷ []
 
-abbrev pub ListTypes : Lfts 4 → List RattleType
+abbrev ListTypes : Lfts 4 → List RattleType
 ListTypes = typesAt ListSlots
 
 abbrev pub list-spells : (κs : Lfts 4) → Spells (ListTypes κs)

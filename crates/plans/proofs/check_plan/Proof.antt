@@ -74,11 +74,12 @@ module _ {M : Type 1} (𝓤 : URA M) (H : Heap 𝓤) (A : Atoms 𝓤) (W : Given
         sets ! (of-opd ! (load ! (from ! (fld ! refl (stop !))) (look-in ! 8 (sub ! 1 refl (whole !))))) 6 refl (tt, record { fits = room }) $
         -- [_8; …; _0; …; the three tokens; true; the times; the arrows; m; the plan; true]: `fit`
         nothing ! $ has-word ! n (refl, room) $ nothing ! $ asks ! 𝓣 known-fit ((tt, tt, tt, (n, tt), (_, tt)), tt) (id⊢ 𝓤 _) refl
-        (λ k _. Fitted k) (λ k _. id⊢ 𝓤 _) (passing ! 7 refl (no-more !)) (λ w₇ k _ h is₇. drop ! $ drop ! $ drop ! $ sets-result ! 2 refl (uint-lawful 𝓤 H A W w64 .typed k _ is₇ .0) $
-        -- `blank`
+        (λ k _. Fitted k) (λ k _. id⊢ 𝓤 _) (passing ! 7 refl (no-more !)) (λ w₇ k _ h is₇.
+        drop ! $ drop ! $ drop ! $ sets-result ! 2 refl (uint-lawful 𝓤 H A W w64 .typed k _ is₇ .0) $
+        -- the same: `blank`
         nothing ! $ nothing ! $ asks ! 𝓣 known-blank ((tt, tt, tt, tt, tt), tt) (id⊢ 𝓤 _) refl (λ t _. Unit {0}) (λ t _. factI 𝓤 (Unit {0}) _ tt)
         (no-more !) (λ w₈ t _ _ is₈. drop ! $ drop ! $ drop ! $ sets-result ! 0 refl (table-typed 𝓤 H A W t w₈ is₈) $
-        -- `copy_in`
+        -- the same: `copy_in`
         nothing ! $ has-table ! t is₈ $ has-word ! k is₇ $
         move ! (23 ∷ 24 ∷ 28 ∷ 0 ∷ 1 ∷ 2 ∷ []) $ asks ! 𝓣 known-in (((_, tt), (_, tt), tt, (a .1 .1 .1 .0, (k, (t, tt))), (_, (_, (_, tt)))), tt)
         (factI 𝓤 _ (emp 𝓤) (h .0, h .1)) refl (λ u _. u ≡ over k plan t) (λ u _. id⊢ 𝓤 _)

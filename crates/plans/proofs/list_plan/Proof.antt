@@ -98,7 +98,7 @@ module _ {M : Type 1} (𝓤 : URA M) (H : Heap 𝓤) (A : Atoms 𝓤) (W : Given
         sets ! (addr ! (from ! (fld ! refl (hop ! (look-in ! 16 (sub ! 0 refl (whole !))) (stop !))))) 8 refl (tt, tt) $
         sets ! (agg ! (passing ! 8 refl (and-then ! (load ! (from ! (fld ! refl (stop !))) (look-in ! 16 (sub ! 1 refl (whole !)))) (no-more !)))) 6 refl
         (tt, (tt, (record { fits = room }, tt))) $
-        -- `copy_out`
+        -- the same: `copy_out`
         nothing ! $ has-word ! (d .n) (LL.owed D.the-type D′.the-laws d _ is .1 .1 .0) $
         has-table ! (d .entries) (table-is d _ is) $ move ! (31 ∷ 33 ∷ 32 ∷ 0 ∷ 1 ∷ 2 ∷ []) $
         asks ! 𝓣 known-out (((_, tt), (_, tt), tt, (a .1 .1 .1 .1 .0, (d .entries, (d .n, tt))), (_, (_, (_, tt)))), tt)
