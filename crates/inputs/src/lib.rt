@@ -8,22 +8,22 @@ ghost use lib.ListN.{length, getD};
 ghost use Rattle.terms.specs.Graphs.{fromOf, toOf};
 ghost use Rattle.inputs.specs.Lent.{IsTimeOf, IsArrowAt};
 
-pub fn usize_from_u8(x: u8) -> usize
-    ensures { λ r. ⌜ (r ≡ x) × (r < 256) ⌝ }
+pub fn usize_from_u8(byte: u8) -> usize
+    ensures { λ r. ⌜ (r ≡ byte) × (r < 256) ⌝ }
 {
-    x as usize
+    byte as usize
 }
 
-pub fn usize_from_u16(x: u16) -> usize
-    ensures { λ r. ⌜ (r ≡ x) × (r < 65536) ⌝ }
+pub fn usize_from_u16(short: u16) -> usize
+    ensures { λ r. ⌜ (r ≡ short) × (r < 65536) ⌝ }
 {
-    x as usize
+    short as usize
 }
 
-pub fn usize_from_u32(x: u32) -> usize
-    ensures { λ r. ⌜ r ≡ x ⌝ }
+pub fn usize_from_u32(word: u32) -> usize
+    ensures { λ r. ⌜ r ≡ word ⌝ }
 {
-    x as usize
+    word as usize
 }
 
 pub fn u32_from_u16(x: u16) -> u32
