@@ -8,24 +8,34 @@ use terms::MOST_SUBTASKS;
 use terms::Subtask;
 use terms::refuse;
 ghost use mathlib.Core.Path.{_≡_};
+ghost use Prim.Native.Nat.{_≤_};
 ghost use lib.ListN.{length};
-ghost use Rattle.terms.specs.Graphs.{timeOf};
 ghost use Rattle.terms.specs.Refusals.{subtaskRows, sizeRows, processorRows, deadlineRows};
 ghost use Rattle.terms.specs.Replies.{IsCheck};
-ghost use Rattle.theory.specs.First.{FirstSubtask};
+ghost use Rattle.limits.specs.Times.{NoughtOf, Noughts};
 
-// 2: the first subtask whose time is 0.
-fn first_without_time(times: &[u16]) -> Subtask
-    ensures { λ r. ⌜ FirstSubtask (length (now (times .entry))) (λ j. timeOf (now (times .entry)) j ≡ 0) (r .0) ⌝ }
+// 1 where a time is 0, else 0.
+fn nought_of(time: u32) -> u16
+    ensures { λ r. ⌜ NoughtOf time r ⌝ }
 {
+    if time == 0 {
+        return 1;
+    }
+    0
+}
+
+// 2: how many subtasks take no time. None ends the loop early, so that many are looked at together.
+fn without_time(times: &[u16]) -> u16
+    requires { ⌜ length (now times) ≤ 256 ⌝ }
+    ensures { λ r. ⌜ Noughts (now (times .entry)) (length (now (times .entry))) r ⌝ }
+{
+    let mut count: u16 = 0;
     let mut j: usize = 0;
     while j < times.len() {
         j += 1;
-        if time_of(times, Subtask(j)) == 0 {
-            return Subtask(j);
-        }
+        count += nought_of(time_of(times, Subtask(j)));
     }
-    Subtask(0)
+    count
 }
 
 // 1 and 2.
@@ -39,8 +49,7 @@ pub fn check_subtasks(times: &[u16]) -> Check
     if MOST_SUBTASKS < n {
         return Check::Refused(refuse(1));
     }
-    let subtask = first_without_time(times);
-    if subtask.0 != 0 {
+    if without_time(times) != 0 {
         return Check::Refused(refuse(2));
     }
     Check::Sound
