@@ -7,7 +7,6 @@ use terms::MOST_PROCESSORS;
 use terms::MOST_SUBTASKS;
 use terms::Subtask;
 use terms::refuse;
-ghost use mathlib.Core.Path.{_≡_};
 ghost use Prim.Native.Nat.{_≤_};
 ghost use lib.ListN.{length};
 ghost use Rattle.terms.specs.Refusals.{subtaskRows, sizeRows, processorRows, deadlineRows};
