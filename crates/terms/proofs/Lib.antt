@@ -3,3 +3,4 @@ pub mod Tables
 pub mod Examples
 pub mod AlteredG
 pub mod WorkedTexts
+pub mod WrittenTexts

@@ -5,6 +5,8 @@ pub mod Paths
 pub mod Verdicts
 pub mod Plans
 pub mod ListRule
+pub mod Arrangements
+pub mod Writings
 pub mod Refusals
 pub mod Replies
 pub mod Alterations

@@ -1,13 +1,14 @@
 -- docs/PLANNER.md, "Numbers of refusal": the table, row by row, and which rows each call asks, in its order.
 use mathlib.Core.Path.{_≡_}
-use mathlib.Core.Logic.{_≢_}
+use mathlib.Core.Logic.{_≢_, _⊎_}
 use mathlib.Core.List.{List, [], _∷_, _++_}
-use Prim.Native.Nat.{ℕ, _<_}
+use Prim.Native.Nat.{ℕ, _≤_, _<_}
 use lib.ListN.{length}
 use Rattle.terms.specs.Rows.{Row, row}
 use Rattle.terms.specs.Graphs.{Among, IsSubtask, timeOf, fromOf, toOf, Precedes, LeadsTo}
 use Rattle.terms.specs.Plans.{processorOf, startOf, endOf, RunsAt, IdleAt}
 use Rattle.terms.specs.ListRule.{IsOrder}
+use Rattle.terms.specs.Writings.{stgText}
 use Rattle.terms.specs.declared.Entry.{Entry}
 
 -- some subtask is so
@@ -78,6 +79,10 @@ arrowRows times arrows =
 unfoldable pub graphRows : List ℕ → List (List ℕ) → List Row
 graphRows times arrows = subtaskRows times ++ (sizeRows arrows ++ arrowRows times arrows)
 
+-- 1 to 4, which are asked where arrows may repeat or close cycles: each arrow names two subtasks
+unfoldable pub namedRows : List ℕ → List (List ℕ) → List Row
+namedRows times arrows = subtaskRows times ++ (sizeRows arrows ++ row 4 (SomeArrow arrows (NamesOutside times arrows)) ∷ [])
+
 -- 2 to 7, which the reader asks of the graph that was read
 unfoldable pub timeAndArrowRows : List ℕ → List (List ℕ) → List Row
 timeAndArrowRows times arrows = timeRows times ++ (sizeRows arrows ++ arrowRows times arrows)
@@ -122,3 +127,11 @@ listRows times arrows M order room = onRows times arrows M ++ orderRows times or
 -- the plan check: 1 to 8 and 12 to 17
 unfoldable pub checkRows : List ℕ → List (List ℕ) → ℕ → List Entry → List Row
 checkRows times arrows M plan = onRows times arrows M ++ planRows times arrows M plan
+
+-- the arrangement, over lent rows of so many begins and numbers: 1 to 4, 11
+unfoldable pub arrangeRows : List ℕ → List (List ℕ) → ℕ → ℕ → List Row
+arrangeRows times arrows begins numbers = namedRows times arrows ++ row 11 ((begins ≤ length times) ⊎ (numbers < length arrows)) ∷ []
+
+-- the writer, over a lent room of so many bytes: 1 to 7, 11
+unfoldable pub writeRows : List ℕ → List (List ℕ) → ℕ → List Row
+writeRows times arrows room = graphRows times arrows ++ row 11 (room < length (stgText times arrows)) ∷ []

@@ -1,14 +1,16 @@
 -- docs/PLANNER.md, "Replies": what each call answers and leaves in its lent row, for every input. Each is told case by case of the reply.
 use mathlib.Core.Path.{_≡_}
-use mathlib.Core.List.{List}
-use Prim.Native.Nat.{ℕ}
+use mathlib.Core.List.{List, _++_}
+use Prim.Native.Nat.{ℕ, suc}
 use lib.ListN.{length, take, drop}
 use Rattle.terms.specs.Rows.{Row, Accepted, RefusedBy}
 use Rattle.terms.specs.Paths.{totalWork, IsLongest}
 use Rattle.terms.specs.Verdicts.{IsVerdict, AreFigures, noFigures}
 use Rattle.terms.specs.Plans.{EndsAt}
 use Rattle.terms.specs.ListRule.{IsListPlan}
-use Rattle.terms.specs.Refusals.{graphRows, verdictRows, listRows, checkRows}
+use Rattle.terms.specs.Arrangements.{Arranged}
+use Rattle.terms.specs.Writings.{stgText}
+use Rattle.terms.specs.Refusals.{graphRows, verdictRows, listRows, checkRows, arrangeRows, writeRows}
 use Rattle.terms.specs.declared.Check.{Check}
 use Rattle.terms.specs.declared.Check.the-variants as check
 use Rattle.terms.specs.declared.Measure.{Measure}
@@ -22,6 +24,8 @@ use Rattle.terms.specs.declared.Answer.{Answer}
 use Rattle.terms.specs.declared.Entry.{Entry}
 use Rattle.terms.specs.declared.PlanEnd.{PlanEnd}
 use Rattle.terms.specs.declared.PlanEnd.the-variants as planEnd
+use Rattle.terms.specs.declared.Written.{Written}
+use Rattle.terms.specs.declared.Written.the-variants as written
 
 -- whether these rows accept, or by which they refuse
 unfoldable pub IsCheck : List Row → Check → Type 0
@@ -69,3 +73,25 @@ IsListed times arrows M order before after (planEnd.Ends E) =
     Accepted (listRows times arrows M order (length before)) × HoldsListPlan times arrows M order before after E
 IsListed times arrows M order before after (planEnd.Refused refusal) =
     RefusedBy (listRows times arrows M order (length before)) refusal × (after ≡ before)
+
+-- what an arrangement leaves in the two lent rows: n + 1 begins and as many numbers as there are arrows, and past them the old contents
+pub record HoldsRows (wanted : ℕ → List ℕ) (n a : ℕ) (begins₀ numbers₀ begins numbers : List ℕ) : Type 0 where
+  pub arranged : Arranged wanted n a begins numbers
+  pub past-begins : drop (suc n) begins ≡ drop (suc n) begins₀
+  pub past-numbers : drop a numbers ≡ drop a numbers₀
+  pub same-begins : length begins ≡ length begins₀
+  pub same-numbers : length numbers ≡ length numbers₀
+
+-- the arrangement of the wanted rows, over the lent rows as they were before and are after; with a refusal they stay as they were
+unfoldable pub IsArranged : (ℕ → List ℕ) → List ℕ → List (List ℕ) → List ℕ → List ℕ → List ℕ → List ℕ → Check → Type 0
+IsArranged wanted times arrows begins₀ numbers₀ begins numbers check.Sound =
+    Accepted (arrangeRows times arrows (length begins₀) (length numbers₀))
+    × HoldsRows wanted (length times) (length arrows) begins₀ numbers₀ begins numbers
+IsArranged wanted times arrows begins₀ numbers₀ begins numbers (check.Refused refusal) =
+    RefusedBy (arrangeRows times arrows (length begins₀) (length numbers₀)) refusal × (begins ≡ begins₀) × (numbers ≡ numbers₀)
+
+-- the writer, over the lent room as it was before and is after: the text in front, and past it the old contents; with a refusal it stays as it was
+unfoldable pub IsWritten : List ℕ → List (List ℕ) → List ℕ → List ℕ → Written → Type 0
+IsWritten times arrows before after (written.Bytes k) =
+    Accepted (writeRows times arrows (length before)) × (k ≡ length (stgText times arrows)) × (after ≡ stgText times arrows ++ drop k before)
+IsWritten times arrows before after (written.Refused refusal) = RefusedBy (writeRows times arrows (length before)) refusal × (after ≡ before)

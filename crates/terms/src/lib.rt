@@ -115,3 +115,9 @@ pub enum Counts {
     Read(GraphSize),
     Refused(Refusal),
 }
+
+// The writer's reply: how many bytes it wrote.
+pub enum Written {
+    Bytes(usize),
+    Refused(Refusal),
+}
