@@ -1,7 +1,7 @@
 -- Acceptance by the table is the same as the facts of SoundGraph, SoundPlan and BusyPlan, and what else each call asks. Assumes nothing.
-use mathlib.Core.Logic.{by-cases, Dec·and}
+use mathlib.Core.Logic.{inl, inr, ⊎-elim, by-cases, Dec·and}
 use mathlib.Core.List.{List}
-use Prim.Native.Nat.{ℕ, _≤_}
+use Prim.Native.Nat.{ℕ, _≤_, _<_}
 use native.Mathlib.Omega.{arith}
 use native.Mathlib.Decide.{decLe, ℕ-discrete}
 use lib.ListN.{length}
@@ -10,7 +10,7 @@ use Rattle.terms.specs.Graphs.{Among, IsSubtask, timeOf, fromOf, toOf, Precedes
 use Rattle.terms.specs.Plans.{processorOf, startOf, endOf}
 use Rattle.terms.specs.ListRule.{IsOrder}
 use Rattle.terms.specs.Refusals.{countRows, timeRows, subtaskRows, sizeRows, arrowRows, graphRows, timeAndArrowRows, processorRows, onRows}
-use Rattle.terms.specs.Refusals.{deadlineRows, orderRows, planRows, verdictRows, listRows, checkRows}
+use Rattle.terms.specs.Refusals.{deadlineRows, orderRows, planRows, verdictRows, listRows, checkRows, namedRows, arrangeRows}
 use Rattle.terms.specs.declared.Entry.{Entry}
 use Rattle.terms.specs.declared.Refusal.{Refusal}
 use Rattle.terms.proofs.Decide.{decAmong, decOrder, undenied}
@@ -62,6 +62,40 @@ from-subtask g w = rw (w .begins) at (g .named (w .place) (w .inside) .0)
 
 pub to-subtask : {times : List ℕ} {arrows : List (List ℕ)} {i j : ℕ} → SoundGraph times arrows → Precedes arrows i j → IsSubtask times j
 to-subtask g w = rw (w .arrives) at (g .named (w .place) (w .inside) .1)
+
+-- ---- arranged over lent rows of so many begins and numbers: 1 to 4, 11
+
+-- what its acceptance hands out
+pub record Arrangeable (times : List ℕ) (arrows : List (List ℕ)) (begins numbers : ℕ) : Type 0 where
+  pub count : Among 1 256 (length times)
+  pub few : length arrows ≤ 2048
+  pub named : (a : ℕ) → a < length arrows → IsSubtask times (fromOf arrows a) × IsSubtask times (toOf arrows a)
+  pub for-begins : length times < begins
+  pub for-numbers : length arrows ≤ numbers
+
+module _ (times : List ℕ) (arrows : List (List ℕ)) (begins numbers : ℕ) where
+  pub sound-arrange : Accepted (arrangeRows times arrows begins numbers) → Arrangeable times arrows begins numbers
+  unfolding arrangeRows namedRows subtaskRows countRows timeRows sizeRows holdsOf
+  sound-arrange a =
+      let row : (k : ℕ) → ¬ holdsOf k (arrangeRows times arrows begins numbers) = λ k. none-holds k (arrangeRows times arrows begins numbers) a in
+      record {
+        count = undenied (decAmong 1 256 (length times)) (row 1);
+        few = by-cases (decLe (length arrows) 2048) (λ l. l) (λ l. absurd (row 3 (omega (arith, l))));
+        named = λ p l. undenied (Dec·and (decAmong 1 (length times) (fromOf arrows p)) (decAmong 1 (length times) (toOf arrows p)))
+            (λ h. row 4 (record { place = p; inside = l; isSo = h }));
+        for-begins = by-cases (decLe begins (length times)) (λ l. absurd (row 11 (inl l))) (λ l. omega (arith, l));
+        for-numbers = by-cases (decLe (length arrows) numbers) (λ l. l) (λ l. absurd (row 11 (inr (omega (arith, l)))));
+      }
+
+  -- where there is room, every accepted graph can be arranged
+  pub accepted-arrange : SoundGraph times arrows → length times < begins → length arrows ≤ numbers → Accepted (arrangeRows times arrows begins numbers)
+  unfolding arrangeRows namedRows subtaskRows countRows timeRows sizeRows
+  accepted-arrange g l m =
+      let r1 = past (begin (arrangeRows times arrows begins numbers)) (λ h. h (g .count)) in
+      let r2 = past r1 (λ h. omega (arith, h .isSo, g .positive (h .subtask) (h .isSubtask))) in
+      let r3 = past r2 (λ h. omega (arith, g .few)) in
+      let r4 = past r3 (λ h. h .isSo (g .named (h .place) (h .inside))) in
+      done (past r4 (λ h. ⊎-elim (λ s. omega (arith, s, l)) (λ s. omega (arith, s, m)) h))
 
 -- ---- on M processors: 1 to 8
 

@@ -55,7 +55,7 @@ module _ {times : List ℕ} {arrows : List (List ℕ)} {M : ℕ} {times′ : Lis
       })
 
   -- two arrows of the new row never stood in one place, so it is no longer than the old one
-  fewer-arrows : length arrows′ ≤ length arrows
+  pub fewer-arrows : length arrows′ ≤ length arrows
   fewer-arrows = by-cases (decLe (length arrows′) (length arrows)) (λ l. l)
       (λ h.
       let q = repeats (length arrows) (λ a. was-place a (decLt a (length arrows′))) (λ a l. was-inside a (decLt a (length arrows′)) (omega arith)) in

@@ -1,19 +1,22 @@
 -- The dummies of docs/PLANNER.md: at a small input each statement rules the dummy's reply out. Assumes nothing.
-use mathlib.Core.Path.{_≡_, refl, _∙_}
+use mathlib.Core.Path.{_≡_, refl, ap, _∙_}
 use mathlib.Core.Logic.{inl, by-cases}
-use mathlib.Core.List.{List, [], _∷_}
-use Prim.Native.Nat.{ℕ, _≤_}
+use mathlib.Core.List.{List, [], _∷_, _++_, append-cancel-left}
+use Prim.Native.Nat.{ℕ, _≤_, _<_}
 use native.Mathlib.Omega.{arith}
 use native.Mathlib.Decide.{decLe}
-use lib.ListN.{length, take}
+use lib.ListN.{length, getD, take, drop, replicate}
+use Rattle.terms.specs.Rows.{Accepted}
 use Rattle.terms.specs.Graphs.{IsSubtask, timeOf}
 use Rattle.terms.specs.Verdicts.{IsVerdict}
 use Rattle.terms.specs.Plans.{at, notPlaced, processorOf, startOf, endOf, Placed, RunsAt}
 use Rattle.terms.specs.ListRule.{ByRule, IsListPlan}
-use Rattle.terms.specs.Refusals.{timeAndArrowRows, graphRows, verdictRows, listRows, checkRows}
-use Rattle.terms.specs.Replies.{IsCheck, IsMeasure, IsTotalWork, IsLongestPath, IsOutcome, IsListed, IsChecked}
+use Rattle.terms.specs.Refusals.{timeAndArrowRows, graphRows, verdictRows, listRows, checkRows, writeRows}
+use Rattle.terms.specs.Replies.{IsCheck, IsMeasure, IsTotalWork, IsLongestPath, IsOutcome, IsListed, IsChecked, IsWritten}
 use Rattle.terms.specs.Readings.{graph, isSize, isFirst, isShape, isTask, isEntryDummy, isExitDummy, mayFollow, arrowsInto, withTask, trailer}
 use Rattle.terms.specs.Readings.{exitLine, taskLines, entryLine, readLines, readText, IsReplyTo, IsRead}
+use Rattle.terms.specs.Arrangements.{hasArrow, passing, lastOf}
+use Rattle.terms.specs.Writings.{decimalIn, decimal, further, line, textOf, withCount, subtaskLines, exitNumbers, stgLines, stgText}
 use Rattle.terms.specs.Texts.{allPass, lines, fields, valueFrom, proper, numbers}
 use Rattle.terms.specs.declared.Entry.{Entry}
 use Rattle.terms.specs.declared.Refusal.{Refusal}
@@ -25,7 +28,7 @@ use Rattle.terms.specs.declared.Verdict.the-variants.{Fits, Late}
 use Rattle.theory.proofs.Accepted.{read-accepted, busy-plan, accepted-plan, accepted-verdict}
 use Rattle.theory.proofs.Paths.{one-longest}
 use Rattle.theory.proofs.ListRule.{by-rule, still-early, ends-early}
-use Rattle.theory.proofs.Answers.{not-both}
+use Rattle.theory.proofs.Answers.{not-both, accepted-join}
 use Rattle.theory.proofs.TwoSubtasks.{none-precedes, both, first, second, pair-sound, pair-longest, pair-total, inTurn, pair-order, one-processor}
 use Rattle.theory.proofs.TwoSubtasks.{pair-figures, pair-listed, short, short-sound, short-accepted, turns, turns-busy}
 use Rattle.terms.specs.declared.Check.the-variants as check
@@ -34,6 +37,7 @@ use Rattle.terms.specs.declared.Amount.the-variants as amount
 use Rattle.terms.specs.declared.Outcome.the-variants as outcome
 use Rattle.terms.specs.declared.PlanEnd.the-variants as planEnd
 use Rattle.terms.specs.declared.Counts.the-variants as counts
+use Rattle.terms.specs.declared.Written.the-variants as written
 
 -- ---- refuses everything: two times 1, no arrows, M = 1, D = 2
 
@@ -84,6 +88,17 @@ unfolding IsReplyTo
 refuses-text timesRow arrowsRow r h =
     let q : IsReplyTo (graph short []) 256 2048 timesRow arrowsRow (counts.Refused r) = rw text-reads at h in
     not-both (timeAndArrowRows short []) r (read-accepted short [] short-accepted) (q .0)
+
+-- their text as the writer has it: "2", "0 0 0", "1 1 1 0", "2 1 1 0", "3 0 2 1 2"
+text-size : length (stgText short []) ≡ 34
+unfolding stgText stgLines textOf line further decimal decimalIn withCount subtaskLines exitNumbers lastOf passing hasArrow
+text-size = refl
+
+pub refuses-writing : (before after : List ℕ) (r : Refusal) → 34 ≤ length before → ¬ IsWritten short [] before after (written.Refused r)
+unfolding IsWritten writeRows Accepted
+refuses-writing before after r room h =
+    let fits : ¬ (length before < length (stgText short [])) = λ l. omega (arith, text-size) in
+    not-both (writeRows short [] (length before)) r (accepted-join (graphRows short []) _ short-accepted (fits, tt)) (h .0)
 
 -- ---- calls every graph late: the same input, S = 2 and M × D = 2
 
@@ -184,3 +199,18 @@ checks-gap E h = busy-plan short [] 1 gap (h .0) .1 .busy 1 (record {
   inRange = record { low = omega arith; high = omega arith };
   free = λ j s e r. both (λ j. RunsAt short gap j 1 → ⊥) (λ q. omega (arith, q .unended)) (λ q. omega (arith, q .begun)) j s r;
 })
+
+-- ---- writes nothing
+
+pub writes-nothing : (before after : List ℕ) → ¬ IsWritten short [] before after (written.Bytes 0)
+unfolding IsWritten
+writes-nothing before after h = omega (arith, text-size, h .1)
+
+-- ---- clears the rest of the room: 35 bytes, all of them 7 before, of which the text takes 34
+
+pub clears-rest : (k : ℕ) → ¬ IsWritten short [] (replicate 35 7) (stgText short [] ++ 0 ∷ []) (written.Bytes k)
+unfolding IsWritten
+clears-rest k (a, n, h) =
+    let rest = rw (n, text-size) at (append-cancel-left (stgText short []) (0 ∷ []) (drop k (replicate 35 7)) h) in
+    let z : _≡_ {A = ℕ} 0 7 = ap (λ (l : List ℕ). getD l 0 0) rest in
+    omega arith

@@ -32,8 +32,21 @@ pub mod OneList
 pub mod ListExists
 pub mod Clock
 pub mod ListPlans
+-- arrows arranged
+pub mod Ascending
+pub mod SortedArrows
+pub mod TimesOver
+-- the written text
+pub mod Decimals
+pub mod LinesBack
+pub mod GraphBack
+pub mod TextLengths
+pub mod LongestText
+pub mod TextBack
+pub mod WrittenBack
 -- what a reader wants
 pub mod OneReply
+pub mod OneArranged
 pub mod Alterations
 pub mod Dropping
 pub mod DemandThree

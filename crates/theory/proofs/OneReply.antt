@@ -3,15 +3,15 @@ use mathlib.Core.Path.{_≡_, refl, sym, ap, ap₂, _∙_}
 use mathlib.Core.List.{List, _++_}
 use Prim.Native.Nat.{ℕ}
 use native.Mathlib.Omega.{arith}
-use lib.ListN.{length, take, take-append-drop}
+use lib.ListN.{length, take, drop, take-append-drop}
 use lib.Ieee.{Float}
-use Rattle.terms.specs.Rows.{Row, Accepted, RefusedBy}
+use Rattle.terms.specs.Rows.{Row}
 use Rattle.terms.specs.Verdicts.{IsVerdict, AreFigures}
-use Rattle.terms.specs.Refusals.{timeAndArrowRows, graphRows, verdictRows, listRows, checkRows}
-use Rattle.terms.specs.Replies.{IsCheck, IsMeasure, IsTotalWork, IsLongestPath, IsOutcome, IsAnswer, IsListed, IsChecked}
+use Rattle.terms.specs.Refusals.{timeAndArrowRows, graphRows, verdictRows, listRows, checkRows, writeRows}
+use Rattle.terms.specs.Replies.{IsCheck, IsMeasure, IsTotalWork, IsLongestPath, IsOutcome, IsAnswer, IsListed, IsChecked, IsWritten}
+use Rattle.terms.specs.Writings.{stgText}
 use Rattle.terms.specs.Readings.{Reading, refuse, graph, readText, IsReplyTo, IsRead}
 use Rattle.terms.specs.declared.Entry.{Entry}
-use Rattle.terms.specs.declared.Refusal.{Refusal}
 use Rattle.terms.specs.declared.Check.{Check}
 use Rattle.terms.specs.declared.Measure.{Measure}
 use Rattle.terms.specs.declared.Amount.{Amount}
@@ -21,6 +21,7 @@ use Rattle.terms.specs.declared.Outcome.{Outcome}
 use Rattle.terms.specs.declared.Answer.{Answer}
 use Rattle.terms.specs.declared.PlanEnd.{PlanEnd}
 use Rattle.terms.specs.declared.Counts.{Counts}
+use Rattle.terms.specs.declared.Written.{Written}
 use Rattle.theory.proofs.Answers.{one-refusal, not-both}
 use Rattle.theory.proofs.Accepted.{sound-list}
 use Rattle.theory.proofs.Paths.{one-longest}
@@ -33,6 +34,7 @@ use Rattle.terms.specs.declared.Verdict.the-variants as verdict
 use Rattle.terms.specs.declared.Outcome.the-variants as outcome
 use Rattle.terms.specs.declared.PlanEnd.the-variants as planEnd
 use Rattle.terms.specs.declared.Counts.the-variants as counts
+use Rattle.terms.specs.declared.Written.the-variants as written
 
 -- ---- the graph
 
@@ -155,3 +157,16 @@ pub one-read : (timesRoom arrowsRoom : ℕ) (text : List ℕ) (timesRow timesRow
     → IsRead timesRoom arrowsRoom text timesRow arrowsRow a → IsRead timesRoom arrowsRoom text timesRow′ arrowsRow′ b
     → (a ≡ b) × (timesRow ≡ timesRow′) × (arrowsRow ≡ arrowsRow′)
 one-read timesRoom arrowsRoom text = one-reading (readText timesRoom arrowsRoom text) timesRoom arrowsRoom
+
+-- ---- the writer: the reply, and the lent room
+
+pub one-written : (times : List ℕ) (arrows : List (List ℕ)) (before after other : List ℕ) (a b : Written)
+    → IsWritten times arrows before after a → IsWritten times arrows before other b → (a ≡ b) × (after ≡ other)
+unfolding IsWritten
+one-written times arrows before after other (written.Bytes k) (written.Bytes l) (p, n, h) (q, m, i) =
+    let e : k ≡ l = n ∙ sym m in
+    (ap written.Bytes e, h ∙ ap (λ (c : ℕ). stgText times arrows ++ drop c before) e ∙ sym i)
+one-written times arrows before after other (written.Bytes k) (written.Refused b) p q = not-both (writeRows times arrows (length before)) b (p .0) (q .0)
+one-written times arrows before after other (written.Refused a) (written.Bytes l) p q = not-both (writeRows times arrows (length before)) a (q .0) (p .0)
+one-written times arrows before after other (written.Refused a) (written.Refused b) p q =
+    (ap written.Refused (one-refusal (writeRows times arrows (length before)) a b (p .0) (q .0)), p .1 ∙ sym (q .1))

@@ -1,11 +1,11 @@
--- What is read from a table after a store, and from a row of noughts. Assumes nothing.
+-- What is read from a table after a store, and from a row of noughts; stores one behind the other. Assumes nothing.
 use mathlib.Core.Path.{_≡_, refl, sym, ap, _∙_, subst}
-use mathlib.Core.List.{List, _∷_}
-use Prim.Native.Nat.{ℕ, zero, suc, _≤_, _<_}
+use mathlib.Core.List.{List, [], _∷_, _++_}
+use Prim.Native.Nat.{ℕ, zero, suc, _+_, _≤_, _<_}
 use native.Mathlib.Omega.{arith}
 use native.Mathlib.Decide.{ℕ-discrete}
 use lib.ListN.{length, getD, set, take, replicate}
-use lib.Seq.{getD-set-same, getD-set-other}
+use lib.Seq.{sets, set-comm, getD-set-same, getD-set-other}
 
 -- by whether the place is the one stored at
 pub read-set : (P : ℕ → Type 0) (l : List ℕ) (i a x : ℕ) → i < length l → (x ≡ i → P a) → (¬ (x ≡ i) → P (getD l x 0)) → P (getD (set l i a) x 0)
@@ -35,3 +35,21 @@ pub take-noughts : (n m : ℕ) → n ≤ m → _≡_ {A = List ℕ} (take n (rep
 take-noughts zero m l = refl
 take-noughts (suc n) zero l = absurd (omega arith)
 take-noughts (suc n) (suc m) l = ap (λ (row : List ℕ). 0 ∷ row) (take-noughts n m (omega arith))
+
+-- ---- many stored one behind the other
+
+-- first some, then others behind them
+pub sets-append : (l : List ℕ) (i : ℕ) (xs ys : List ℕ) → sets l i (xs ++ ys) ≡ sets (sets l i xs) (i + length xs) ys
+sets-append l i [] ys = let e : i ≡ i + 0 = omega arith in ap (λ (k : ℕ). sets l k ys) e
+sets-append l i (x ∷ xs) ys =
+    let e : suc i + length xs ≡ i + suc (length xs) = omega arith in
+    sets-append (set l i x) (suc i) xs ys ∙ ap (λ (k : ℕ). sets (sets (set l i x) (suc i) xs) k ys) e
+
+-- the last one stored first
+pub sets-last : (l : List ℕ) (i : ℕ) (xs : List ℕ) (b : ℕ) → sets (set l (i + length xs) b) i xs ≡ sets l i (xs ++ b ∷ [])
+sets-last l i [] b = let e : i + 0 ≡ i = omega arith in ap (λ (k : ℕ). set l k b) e
+sets-last l i (x ∷ xs) b =
+    let e : i + suc (length xs) ≡ suc i + length xs = omega arith in
+    ap (λ (k : List ℕ). sets k (suc i) xs) (set-comm l (i + suc (length xs)) i b x (λ q. omega (arith, q)))
+    ∙ ap (λ (k : ℕ). sets (set (set l i x) k b) (suc i) xs) e
+    ∙ sets-last (set l i x) (suc i) xs b

@@ -108,6 +108,39 @@ bit-mono (yes a) (yes b) f = omega arith
 bit-mono (yes a) (no h) f = absurd (h (f a))
 bit-mono (no g) e f = omega arith
 
+pub bit-same : {A B : Type 0} (d : Dec A) (e : Dec B) → (A → B) → (B → A) → bit d ≡ bit e
+bit-same d e f g = omega (arith, bit-mono d e f, bit-mono e d g)
+
+-- the same places are so
+pub bits-same : {A B : ℕ → Type 0} (n : ℕ) (d : (i : ℕ) → Dec (A i)) (e : (i : ℕ) → Dec (B i)) → ((i : ℕ) → i < n → A i → B i)
+    → ((i : ℕ) → i < n → B i → A i) → sum n (λ i. bit (d i)) ≡ sum n (λ i. bit (e i))
+bits-same n d e f g = sum-eq n _ _ (λ i l. bit-same (d i) (e i) (f i l) (g i l))
+
+-- one place more is
+pub bits-more : {A B : ℕ → Type 0} (n : ℕ) (d : (i : ℕ) → Dec (A i)) (e : (i : ℕ) → Dec (B i)) (p : ℕ) → p < n → ¬ A p → B p
+    → ((i : ℕ) → i < n → i ≢ p → A i → B i) → ((i : ℕ) → i < n → i ≢ p → B i → A i) → sum n (λ i. bit (e i)) ≡ sum n (λ i. bit (d i)) + 1
+unfolding sum
+bits-more zero d e p l x y f g = absurd (omega (arith, l))
+bits-more (suc n) d e p l x y f g =
+    go (ℕ-discrete p n) (λ b. bits-more n d e p b x y (λ i c. f i (omega (arith, c))) (λ i c. g i (omega (arith, c))))
+  where
+    go : Dec (p ≡ n) → (p < n → sum n (λ i. bit (e i)) ≡ sum n (λ i. bit (d i)) + 1)
+        → sum n (λ i. bit (e i)) + bit (e n) ≡ sum n (λ i. bit (d i)) + bit (d n) + 1
+    go (yes z) rest =
+        let same = bits-same n d e (λ i c. f i (omega (arith, c)) (omega (arith, c, z))) (λ i c. g i (omega (arith, c)) (omega (arith, c, z))) in
+        let before : bit (d n) ≡ 0 = bit-no (d n) (rw z at x) in
+        let now : bit (e n) ≡ 1 = bit-yes (e n) (rw z at y) in
+        omega (arith, same, before, now)
+    go (no z) rest =
+        let same = bit-same (d n) (e n) (f n (omega arith) (λ w. z (sym w))) (g n (omega arith) (λ w. z (sym w))) in
+        omega (arith, rest (omega (arith, l, z)), same)
+
+-- no more than there are places
+pub bits-most : {IsSo : ℕ → Type 0} (n : ℕ) (is : (i : ℕ) → Dec (IsSo i)) → sum n (λ i. bit (is i)) ≤ n
+unfolding sum
+bits-most zero is = omega arith
+bits-most (suc n) is = omega (arith, bits-most n is, bit-le (is n))
+
 -- a sum with one term that is not 0
 pub sum-one : (n : ℕ) (f : ℕ → ℕ) (a c : ℕ) → ((i : ℕ) → i < n → i ≢ a → f i ≡ 0) → f a ≤ c → sum n f ≤ c
 unfolding sum
