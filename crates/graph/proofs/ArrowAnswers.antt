@@ -1,14 +1,14 @@
--- From what the scans and the order say to the answer of the rows 4 to 7. Assumes nothing.
+-- From what the scans and the order say to the answer of the rows 4 to 7, and of 4 alone. Assumes nothing.
 use mathlib.Core.Path.{_≡_}
 use mathlib.Core.Logic.{_≢_, Dec·and, by-cases}
-use mathlib.Core.List.{List}
+use mathlib.Core.List.{List, [], _∷_}
 use Prim.Native.Nat.{ℕ, _-_, _≤_, _<_}
 use native.Mathlib.Omega.{arith}
 use native.Mathlib.Decide.{ℕ-discrete, decLe}
 use lib.ListN.{length}
-use Rattle.terms.specs.Rows.{Accepted, RefusedBy, refusalOf}
+use Rattle.terms.specs.Rows.{row, Accepted, RefusedBy, refusalOf}
 use Rattle.terms.specs.Graphs.{IsSubtask, fromOf, toOf, LeadsTo}
-use Rattle.terms.specs.Refusals.{SomeArrow, Repeats, countRows, timeRows, subtaskRows, sizeRows, arrowRows}
+use Rattle.terms.specs.Refusals.{SomeArrow, NamesOutside, Repeats, countRows, timeRows, subtaskRows, sizeRows, arrowRows}
 use Rattle.terms.specs.declared.Refusal.{Refusal}
 use Rattle.terms.proofs.Decide.{decAmong, undenied}
 use Rattle.theory.specs.First.{First}
@@ -59,6 +59,18 @@ module _ (times : List ℕ) (arrows : List (List ℕ)) where
 
         itself : fromOf arrows (wrong .0) ≡ toOf arrows (wrong .0)
         itself = undenied (ℕ-discrete _ _) (λ apart. wrong .2 (record { from-in = named .0; to-in = named .1; apart = apart }))
+
+    -- 4 alone
+    pub none-outside : a ≡ 0 → Accepted (row 4 (SomeArrow arrows (NamesOutside times arrows)) ∷ [])
+    unfolding Accepted
+    none-outside z = (no-arrow scan z, tt)
+
+    pub some-outside : {r : Refusal} → a ≢ 0 → r ≡ refusalOf 4 → RefusedBy (row 4 (SomeArrow arrows (NamesOutside times arrows)) ∷ []) r
+    some-outside h e = stop-with (begin _) (some-arrow scan h) e
+
+  pub all-named : {f : ℕ} → Faults (length times) arrows (length arrows) f → f ≡ 0 → Accepted (row 4 (SomeArrow arrows (NamesOutside times arrows)) ∷ [])
+  unfolding Accepted
+  all-named faults z = ((λ s. let two = faults .none z (s .place) (s .inside) in s .isSo (two .from-in, two .to-in)), tt)
 
   -- neither holds: each arrow goes from a subtask to another
   pub record Joined : Type 0 where

@@ -20,9 +20,10 @@ use terms::Measure;
 use terms::Weights;
 use terms::refuse;
 ghost use mathlib.Core.Path.{_≡_};
+ghost use mathlib.Core.List.{[], _∷_};
 ghost use lib.ListN.{length, replicate};
-ghost use Rattle.terms.specs.Rows.{Accepted};
-ghost use Rattle.terms.specs.Refusals.{subtaskRows, sizeRows, arrowRows, graphRows, onRows};
+ghost use Rattle.terms.specs.Rows.{row, Accepted};
+ghost use Rattle.terms.specs.Refusals.{SomeArrow, NamesOutside, subtaskRows, sizeRows, arrowRows, graphRows, namedRows, onRows};
 ghost use Rattle.terms.specs.Replies.{IsCheck, IsMeasure, IsTotalWork, IsLongestPath};
 ghost use Rattle.graph.specs.Finds.{Finds};
 
@@ -94,6 +95,34 @@ pub fn check_on(times: &[u16], arrows: &[[u16; 2]], m: u32) -> Check
     match check(times, arrows) {
         Check::Refused(refusal) => Check::Refused(refusal),
         Check::Sound => check_processors(m),
+    }
+}
+
+// 4 alone.
+fn check_outside(times: &[u16], arrows: &[[u16; 2]]) -> Check
+    requires { ⌜ Accepted (subtaskRows (now times)) × Accepted (sizeRows (now arrows)) ⌝ }
+    ensures { λ r. ⌜ IsCheck (row 4 (SomeArrow (now (arrows .entry)) (NamesOutside (now (times .entry)) (now (arrows .entry)))) ∷ []) r ⌝ }
+{
+    let n = times.len();
+    if faults(n, arrows) == 0 {
+        return Check::Sound;
+    }
+    if first_outside(n, arrows) == 0 {
+        return Check::Sound;
+    }
+    Check::Refused(refuse(4))
+}
+
+// Whether the arrows name subtasks, whatever they join: 1 to 4.
+pub fn check_named(times: &[u16], arrows: &[[u16; 2]]) -> Check
+    ensures { λ r. ⌜ IsCheck (namedRows (now (times .entry)) (now (arrows .entry))) r ⌝ }
+{
+    match check_subtasks(times) {
+        Check::Refused(refusal) => Check::Refused(refusal),
+        Check::Sound => match check_size(arrows) {
+            Check::Refused(refusal) => Check::Refused(refusal),
+            Check::Sound => check_outside(times, arrows),
+        },
     }
 }
 
