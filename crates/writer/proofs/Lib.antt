@@ -1,0 +1,6 @@
+pub mod TaskLines
+pub mod TableRows
+pub mod SubtaskTexts
+pub mod WholeTexts
+pub mod NoSuccessors
+pub mod Replied
