@@ -11,4 +11,10 @@ if ! rt check frames 2>&1 | tee target/frames.log | grep --line-buffered '^rt: .
   cat target/frames.log >&2
   exit 1
 fi
-target/bin/frames < "$text"
+run=()
+if [ "$(uname -m)" != x86_64 ]; then
+  # the program is for x86-64; for another processor the kit has an emulator
+  tools=$(dirname "$(dirname "$(rt doc)")")/on/$(uname -m)/toolchain
+  run=("$tools/bin/qemu-x86_64" "$tools/lib/ld-linux-x86-64.so.2" --library-path "$tools/lib")
+fi
+"${run[@]}" target/bin/frames < "$text"
