@@ -26,9 +26,9 @@
 extern "C" {
 #endif
 
-#define ZUL_VERSION "0.1.0"
+#define ZUL_VERSION "0.2.0"
 #define ZUL_VERSION_MAJOR 0
-#define ZUL_VERSION_MINOR 1
+#define ZUL_VERSION_MINOR 2
 #define ZUL_VERSION_PATCH 0
 
 /* The limits ("Numbers"). */
@@ -39,6 +39,7 @@ extern "C" {
 #define ZUL_MAX_DEADLINE 1000000 /* microseconds; a deadline is at least 1 */
 #define ZUL_MAX_START 16776960   /* microseconds; also the largest total work */
 #define ZUL_MAX_TEXT 60000       /* bytes of an STG text */
+#define ZUL_MAX_WRITTEN 12422    /* bytes of an STG text that zul_write_stg writes */
 
 /* The numbers of refusal ("Numbers of refusal": who asks which, in which order). More may be added.
  * begin: bindings/refusals.sh, from refusals.txt */
@@ -118,6 +119,9 @@ typedef struct { uint32_t number, end; } zul_plan_end;
 /* How many subtasks and arrows a text has. */
 typedef struct { uint32_t number, subtasks, arrows; } zul_counts;
 
+/* How many bytes were written. */
+typedef struct { uint32_t number, bytes; } zul_written;
+
 /* The layouts that the archive was compiled for. */
 #if defined(__cplusplus) && __cplusplus >= 201103L
 #define ZUL_LAYOUT(holds) static_assert(holds, "the planner was compiled for another layout")
@@ -132,6 +136,7 @@ ZUL_LAYOUT(sizeof(zul_amount) == 8 && offsetof(zul_amount, value) == 4);
 ZUL_LAYOUT(sizeof(zul_answer) == 28 && offsetof(zul_answer, load) == 16 && offsetof(zul_answer, margin) == 24);
 ZUL_LAYOUT(sizeof(zul_plan_end) == 8 && offsetof(zul_plan_end, end) == 4);
 ZUL_LAYOUT(sizeof(zul_counts) == 12 && offsetof(zul_counts, arrows) == 8);
+ZUL_LAYOUT(sizeof(zul_written) == 8 && offsetof(zul_written, bytes) == 4);
 #undef ZUL_LAYOUT
 #endif
 
@@ -160,6 +165,13 @@ zul_plan_end zul_check_plan(const uint16_t *times, size_t n, const zul_arrow *ar
  * places past the last time and the last arrow are 0, and with a refusal all are. */
 zul_counts zul_read_stg(const uint8_t *text, size_t len, uint16_t *times, size_t times_len, zul_arrow *arrows,
                         size_t arrows_len);
+
+/* Writes the graph as such a text, in one form ("Writing"), to the front of the room; zul_read_stg reads it back, with
+ * the arrows by `to` and then by `from`. Asks 1 to 7, then 11 where the room is shorter than the text, which is never
+ * longer than ZUL_MAX_WRITTEN. No 0 byte ends it: the reply says how many bytes it has. Bytes past it stay as they were;
+ * with a refusal all do. */
+zul_written zul_write_stg(const uint16_t *times, size_t n, const zul_arrow *arrows, size_t arrows_len, uint8_t *text,
+                          size_t text_len);
 
 #ifdef __cplusplus
 }

@@ -1,6 +1,7 @@
 /* What the header promises at the edges: a null pointer beside the length 0 is fine in every call, and every number has
  * a text. Prints the texts of 0 to 99, for the tests to compare with the Rust crate's; fails where a reply is wrong. */
 #include <stdio.h>
+#include <string.h>
 #include <zulagbemi.h>
 
 static int wrong = 0;
@@ -23,6 +24,7 @@ static void no_graph(void) {
     expect("list plan of nothing", zul_list_plan(NULL, 0, NULL, 0, 1, NULL, 0, NULL, 0).number, ZUL_REFUSED_SUBTASK_COUNT);
     expect("plan check of nothing", zul_check_plan(NULL, 0, NULL, 0, 1, NULL, 0).number, ZUL_REFUSED_SUBTASK_COUNT);
     expect("no text, no rows", zul_read_stg(NULL, 0, NULL, 0, NULL, 0).number, ZUL_REFUSED_ROOM);
+    expect("nothing to write", zul_write_stg(NULL, 0, NULL, 0, NULL, 0).number, ZUL_REFUSED_SUBTASK_COUNT);
 }
 
 static void no_arrows(void) {
@@ -40,12 +42,25 @@ static void no_row(void) {
     expect("no text", zul_read_stg(NULL, 0, times, ZUL_MAX_SUBTASKS, arrows, ZUL_MAX_ARROWS).number, ZUL_REFUSED_FIRST_LINE);
     expect("no times", zul_read_stg(NULL, 0, NULL, 0, arrows, ZUL_MAX_ARROWS).number, ZUL_REFUSED_ROOM);
     expect("no arrows row", zul_read_stg(NULL, 0, times, ZUL_MAX_SUBTASKS, NULL, 0).number, ZUL_REFUSED_ROOM);
+    expect("no room to write", zul_write_stg(three, 1, NULL, 0, NULL, 0).number, ZUL_REFUSED_ROOM);
+}
+
+/* The whole text and the byte behind it; and a room that is a byte too short, left as it was. */
+static void one_text(void) {
+    static const char expected[] = "1\n0 0 0\n1 3 1 0\n2 0 1 1\n?", untouched[] = "????????????????????????";
+    uint8_t room[sizeof expected - 1];
+    memset(room, '?', sizeof room);
+    expect("a byte too short", zul_write_stg(three, 1, NULL, 0, room, sizeof room - 2).number, ZUL_REFUSED_ROOM);
+    expect("the room as it was", memcmp(room, untouched, sizeof room - 2) == 0, 1);
+    expect("bytes written", zul_write_stg(three, 1, NULL, 0, room, sizeof room).bytes, sizeof room - 1);
+    expect("the text", memcmp(room, expected, sizeof room) == 0, 1);
 }
 
 int main(void) {
     no_graph();
     no_arrows();
     no_row();
+    one_text();
     for (uint32_t number = 0; number < 100; number++) printf("%u %s\n", (unsigned)number, zul_meaning(number));
     return wrong;
 }

@@ -44,6 +44,50 @@ impl<'a> Graph<'a> {
         Refusal::unless(r.number, Self::new(&times[..r.subtasks as usize], &arrows[..r.arrows as usize]))
     }
 
+    /// Writes the graph in the layout of the Standard Task Graph Set, in the one form of `docs/PLANNER.md`, "Writing", to
+    /// the front of a lent room, and answers how many bytes; [`MAX_WRITTEN`] are always enough. Bytes past the text stay
+    /// as they were; with a refusal all do.
+    ///
+    /// ```
+    /// use zulagbemi::{Arrow, Graph, MAX_WRITTEN};
+    /// let mut room = [0; MAX_WRITTEN];
+    /// let size = Graph::new(&[5, 7], &[Arrow::new(1, 2)]).write_stg(&mut room)?;
+    /// assert_eq!(&room[..size], b"2\n0 0 0\n1 5 1 0\n2 7 1 1\n3 0 1 2\n");
+    /// # Ok::<(), zulagbemi::Refusal>(())
+    /// ```
+    ///
+    /// [`MAX_WRITTEN`]: crate::MAX_WRITTEN
+    pub fn write_stg(self, text: &mut [u8]) -> Result<usize, Refusal> {
+        let (times, arrows) = (self.times, self.arrows);
+        // SAFETY: each pointer is a slice's, beside that slice's length; the room is borrowed for this call alone.
+        let r = unsafe {
+            linked::zul_write_stg(
+                times.as_ptr(),
+                times.len(),
+                arrows.as_ptr(),
+                arrows.len(),
+                text.as_mut_ptr(),
+                text.len(),
+            )
+        };
+        Refusal::unless(r.number, r.bytes as usize)
+    }
+
+    /// The text of [`write_stg`](Self::write_stg) as a `String`. It takes the crate's feature `alloc`.
+    ///
+    /// ```
+    /// # use zulagbemi::Graph;
+    /// assert_eq!(Graph::new(&[3], &[]).to_stg()?, "1\n0 0 0\n1 3 1 0\n2 0 1 1\n");
+    /// # Ok::<(), zulagbemi::Refusal>(())
+    /// ```
+    #[cfg(feature = "alloc")]
+    pub fn to_stg(self) -> Result<alloc::string::String, Refusal> {
+        let mut text = alloc::vec![0; crate::MAX_WRITTEN];
+        let size = self.write_stg(&mut text)?;
+        text.truncate(size);
+        Ok(alloc::string::String::from_utf8(text).expect("digits, spaces and line feeds"))
+    }
+
     /// The time of each subtask.
     #[must_use]
     pub const fn times(self) -> &'a [u16] {

@@ -21,11 +21,14 @@
 //! # Ok::<(), zulagbemi::Refusal>(())
 //! ```
 //!
-//! The crate needs no `std` and allocates nothing. No call keeps anything between calls, so threads may call as they
-//! like; each call needs less than 16 KiB of stack. The planner itself is an archive for x86-64, which `build.rs` proves
-//! and builds with the Rattle toolchain, or takes from the folder that `ZULAGBEMI_LIB_DIR` names.
+//! The crate needs no `std` and allocates nothing, but for `Graph::to_stg`, which the feature `alloc` brings. No call
+//! keeps anything between calls, so threads may call as they like; each call needs less than 16 KiB of stack. The planner
+//! itself is an archive for x86-64, which `build.rs` proves and builds with the Rattle toolchain, or takes from the folder
+//! that `ZULAGBEMI_LIB_DIR` names.
 
 #![no_std]
+#[cfg(feature = "alloc")]
+extern crate alloc;
 
 mod graph;
 mod linked;
@@ -53,3 +56,5 @@ pub const MAX_DEADLINE: u32 = 1_000_000;
 pub const MAX_START: u32 = 16_776_960;
 /// An STG text has at most 60,000 bytes.
 pub const MAX_TEXT: usize = 60_000;
+/// An STG text that [`Graph::write_stg`] writes has at most 12,422 bytes.
+pub const MAX_WRITTEN: usize = 12_422;

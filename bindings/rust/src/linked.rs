@@ -34,12 +34,19 @@ pub struct Counts {
     pub arrows: u32,
 }
 
+#[repr(C)]
+pub struct Written {
+    pub number: u32,
+    pub bytes: u32,
+}
+
 const _: () = {
     assert!(size_of::<usize>() == 8);
     assert!(size_of::<Arrow>() == 4 && align_of::<Arrow>() == 2 && offset_of!(Arrow, to) == 2);
     assert!(size_of::<Entry>() == 8 && offset_of!(Entry, start) == 4);
     assert!(size_of::<Answer>() == 28 && offset_of!(Answer, load) == 16 && offset_of!(Answer, margin) == 24);
     assert!(size_of::<Amount>() == 8 && size_of::<PlanEnd>() == 8 && size_of::<Counts>() == 12);
+    assert!(size_of::<Written>() == 8);
 };
 
 extern "C" {
@@ -74,4 +81,12 @@ extern "C" {
         arrows: *mut Arrow,
         arrows_len: usize,
     ) -> Counts;
+    pub fn zul_write_stg(
+        times: *const u16,
+        n: usize,
+        arrows: *const Arrow,
+        arrows_len: usize,
+        text: *mut u8,
+        text_len: usize,
+    ) -> Written;
 }

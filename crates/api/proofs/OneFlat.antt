@@ -2,15 +2,16 @@
 use mathlib.Core.Path.{_≡_, sym, ap, _∙_}
 use mathlib.Core.List.{List}
 use Prim.Native.Nat.{ℕ}
-use Rattle.terms.specs.Replies.{IsTotalWork, IsLongestPath, IsAnswer, IsChecked, IsListed}
+use Rattle.terms.specs.Replies.{IsTotalWork, IsLongestPath, IsAnswer, IsChecked, IsListed, IsWritten}
 use Rattle.terms.specs.Readings.{IsRead}
 use Rattle.terms.specs.declared.Entry.{Entry}
 use Rattle.theory.proofs.OneReply as one
-use Rattle.api.specs.Flats.{Flattens, flatAmount, flatAnswer, flatEnd, flatCounts}
+use Rattle.api.specs.Flats.{Flattens, flatAmount, flatAnswer, flatEnd, flatCounts, flatWritten}
 use Rattle.api.specs.declared.FlatAmount.{FlatAmount}
 use Rattle.api.specs.declared.FlatAnswer.{FlatAnswer}
 use Rattle.api.specs.declared.FlatEnd.{FlatEnd}
 use Rattle.api.specs.declared.FlatCounts.{FlatCounts}
+use Rattle.api.specs.declared.FlatWritten.{FlatWritten}
 
 -- equal replies have one flat form
 one-form : {A B : Type 0} {Is Other : A → Type 0} (flat : A → B) (r s : B) (p : Flattens Is flat r) (q : Flattens Other flat s) → p .reply ≡ q .reply → r ≡ s
@@ -37,6 +38,14 @@ module _ (times : List ℕ) (arrows : List (List ℕ)) where
   one-listed M order before after other r s p q =
       let same = one.one-listed times arrows M order before after other (p .reply) (q .reply) (p .is) (q .is) in
       (one-form flatEnd r s p q (same .0), same .1)
+
+  -- the reply, and the room
+  pub one-written : (before after other : List ℕ) (r s : FlatWritten)
+      → Flattens (IsWritten times arrows before after) flatWritten r
+      → Flattens (IsWritten times arrows before other) flatWritten s → (r ≡ s) × (after ≡ other)
+  one-written before after other r s p q =
+      let same = one.one-written times arrows before after other (p .reply) (q .reply) (p .is) (q .is) in
+      (one-form flatWritten r s p q (same .0), same .1)
 
 -- the reply, and both rows
 pub one-read : (timesRoom arrowsRoom : ℕ) (text timesRow timesRow′ : List ℕ) (arrowsRow arrowsRow′ : List (List ℕ)) (r s : FlatCounts)

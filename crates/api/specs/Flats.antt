@@ -15,10 +15,13 @@ use Rattle.terms.specs.declared.PlanEnd.{PlanEnd}
 use Rattle.terms.specs.declared.PlanEnd.the-variants as planEnd
 use Rattle.terms.specs.declared.Counts.{Counts}
 use Rattle.terms.specs.declared.Counts.the-variants as counts
+use Rattle.terms.specs.declared.Written.{Written}
+use Rattle.terms.specs.declared.Written.the-variants as written
 use Rattle.api.specs.declared.FlatAmount.{FlatAmount}
 use Rattle.api.specs.declared.FlatAnswer.{FlatAnswer}
 use Rattle.api.specs.declared.FlatEnd.{FlatEnd}
 use Rattle.api.specs.declared.FlatCounts.{FlatCounts}
+use Rattle.api.specs.declared.FlatWritten.{FlatWritten}
 
 -- r is the flat form of a reply that is as stated
 pub record Flattens {A B : Type 0} (Is : A → Type 0) (flat : A → B) (r : B) : Type 0 where
@@ -56,3 +59,12 @@ flatCounts (counts.Refused refusal) = record { number = refusal .number; subtask
 abbrev pub InRange : Counts → Type 0
 InRange (counts.Read size) = (size .subtasks ≤ 256) × (size .arrows ≤ 2048)
 InRange (counts.Refused refusal) = Unit {0}
+
+abbrev pub flatWritten : Written → FlatWritten
+flatWritten (written.Bytes size) = record { number = 0; bytes = size }
+flatWritten (written.Refused refusal) = record { number = refusal .number; bytes = 0 }
+
+-- the length of a text that was written; it has room in 32 bits
+abbrev pub IsShort : Written → Type 0
+IsShort (written.Bytes size) = size ≤ 12422
+IsShort (written.Refused refusal) = Unit {0}

@@ -4,6 +4,7 @@ use graph::total_work;
 use plans::check_plan;
 use plans::list_plan;
 use stg::read_stg;
+use stg::write_stg;
 use terms::Amount;
 use terms::Answer;
 use terms::Counts;
@@ -12,12 +13,13 @@ use terms::Figures;
 use terms::Outcome;
 use terms::PlanEnd;
 use terms::Verdict;
+use terms::Written;
 use verdict::judge;
 ghost use mathlib.Core.Path.{_≡_};
 ghost use lib.ListN.{length};
-ghost use Rattle.terms.specs.Replies.{IsTotalWork, IsLongestPath, IsAnswer, IsListed, IsChecked};
+ghost use Rattle.terms.specs.Replies.{IsTotalWork, IsLongestPath, IsAnswer, IsListed, IsChecked, IsWritten};
 ghost use Rattle.terms.specs.Readings.{IsRead};
-ghost use Rattle.api.specs.Flats.{Flattens, InRange, flatAmount, flatJudged, flatAnswer, flatEnd, flatCounts};
+ghost use Rattle.api.specs.Flats.{Flattens, InRange, IsShort, flatAmount, flatJudged, flatAnswer, flatEnd, flatCounts, flatWritten};
 
 // C or P.
 #[repr(C)]
@@ -51,6 +53,13 @@ pub struct FlatCounts {
     pub number: u32,
     pub subtasks: u32,
     pub arrows: u32,
+}
+
+// How many bytes were written.
+#[repr(C)]
+pub struct FlatWritten {
+    pub number: u32,
+    pub bytes: u32,
 }
 
 fn flatten_amount(reply: Amount) -> FlatAmount
@@ -131,6 +140,22 @@ fn flatten_counts(reply: Counts) -> FlatCounts
     }
 }
 
+fn flatten_written(reply: Written) -> FlatWritten
+    requires { ⌜ IsShort reply ⌝ }
+    ensures { λ r. ⌜ r ≡ flatWritten reply ⌝ }
+{
+    match reply {
+        Written::Bytes(size) => FlatWritten {
+            number: 0,
+            bytes: size as u32,
+        },
+        Written::Refused(refusal) => FlatWritten {
+            number: refusal.number as u32,
+            bytes: 0,
+        },
+    }
+}
+
 // C.
 #[no_mangle]
 pub extern "C" fn zul_total_work(times: &[u16], arrows: &[[u16; 2]]) -> FlatAmount
@@ -192,4 +217,12 @@ pub extern "C" fn zul_read_stg(
     ensures { λ r. ⌜ Flattens (IsRead (length (now (times .entry))) (length (now (arrows .entry))) (now (text .entry)) (now (times .exit)) (now (arrows .exit))) flatCounts r ⌝ }
 {
     flatten_counts(read_stg(text, times, arrows))
+}
+
+// Writes the STG text of a graph to the front of the room, and answers how many bytes; or leaves the room as it was, and answers why.
+#[no_mangle]
+pub extern "C" fn zul_write_stg(times: &[u16], arrows: &[[u16; 2]], text: &mut [u8]) -> FlatWritten
+    ensures { λ r. ⌜ Flattens (IsWritten (now (times .entry)) (now (arrows .entry)) (now (text .entry)) (now (text .exit))) flatWritten r ⌝ }
+{
+    flatten_written(write_stg(times, arrows, text))
 }

@@ -1,4 +1,4 @@
-// The reader of STG texts: one pass over the text, line by line, field by field.
+// The reader of STG texts: one pass over the text, line by line, field by field. And the writer, under its public name.
 mod clearing;
 mod outer_lines;
 mod predecessors;
@@ -17,13 +17,16 @@ use terms::GraphSize;
 use terms::LONGEST_TEXT;
 use terms::MOST_ARROWS;
 use terms::MOST_SUBTASKS;
+use terms::Written;
 use terms::refuse;
+use writer::write_graph;
 ghost use mathlib.Core.Path.{_≡_};
 ghost use Prim.Native.Nat.{_≤_};
 ghost use lib.ListN.{length, drop};
 ghost use Rattle.terms.specs.Graphs.{Among};
 ghost use Rattle.terms.specs.Texts.{lines};
 ghost use Rattle.terms.specs.Readings.{taskLines, readLines, readText, IsRead};
+ghost use Rattle.terms.specs.Replies.{IsWritten};
 ghost use Rattle.stg.specs.LinesRead.{Leaves};
 ghost use Rattle.stg.specs.RowsRead.{ChecksRead, RoomOf, TellsOf, keptBy};
 
@@ -130,4 +133,11 @@ pub fn read_stg(text: &[u8], times: &mut [u16], arrows: &mut [[u16; 2]]) -> Coun
     let kept = kept_by(reply);
     clear_past(times, kept.subtasks, arrows, kept.arrows);
     reply
+}
+
+// Writes the STG text of a graph to the front of the room, and answers how many bytes; or leaves the room as it was, and answers why.
+pub fn write_stg(times: &[u16], arrows: &[[u16; 2]], text: &mut [u8]) -> Written
+    ensures { λ r. ⌜ IsWritten (now (times .entry)) (now (arrows .entry)) (now (text .entry)) (now (text .exit)) r ⌝ }
+{
+    write_graph(times, arrows, text)
 }

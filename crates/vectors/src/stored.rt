@@ -1,13 +1,16 @@
-// What the planner says of a text, held to the output that an independent implementation gave for it.
+// What the planner says of a text, held to the output that an independent implementation gave for it. A text that reads is written too, and
+// what was written is held to the same output.
 use inputs::order_by_number;
 use listplan::draft_plan;
 use plancheck::check_table;
 use stg::read_stg;
+use stg::write_stg;
 use terms::Counts;
 use terms::Outcome;
 use terms::PlanEnd;
 use terms::Refusal;
 use terms::Verdict;
+use terms::Written;
 use verdict::judge;
 
 // A number of a stored output, and the place behind the byte after it.
@@ -129,6 +132,74 @@ fn table_agrees(times: &[u16], arrows: &[[u16; 2]], output: &[u8]) -> bool {
     true
 }
 
+// Whether two rows of times are the same.
+fn same_times(times: &[u16], others: &[u16]) -> bool {
+    if times.len() != others.len() {
+        return false;
+    }
+    let mut i: usize = 0;
+    while i < times.len() {
+        if times[i] != others[i] {
+            return false;
+        }
+        i += 1;
+    }
+    true
+}
+
+// Whether a graph that was written and read again has the same times and as many arrows, and the stored output says the same of it.
+fn again_agrees(
+    times: &[u16],
+    count: usize,
+    again: &[u16],
+    arrows: &[[u16; 2]],
+    output: &[u8],
+) -> bool {
+    if arrows.len() != count {
+        return false;
+    }
+    if !same_times(times, again) {
+        return false;
+    }
+    table_agrees(again, arrows, output)
+}
+
+// The same of its text.
+fn reads_as(text: &[u8], times: &[u16], count: usize, output: &[u8]) -> bool {
+    let mut again = [0u16; 256];
+    let mut arrows = [[0u16; 2]; 2048];
+    match read_stg(text, &mut again, &mut arrows) {
+        Counts::Refused(_) => false,
+        Counts::Read(size) => {
+            let subtasks = size.subtasks;
+            let many = size.arrows;
+            again_agrees(times, count, &again[..subtasks], &arrows[..many], output)
+        }
+    }
+}
+
+// Whether the graph is still the same when it has been written and read again.
+fn written_agrees(times: &[u16], arrows: &[[u16; 2]], output: &[u8]) -> bool {
+    let mut text = [0u8; 12422];
+    match write_stg(times, arrows, &mut text) {
+        Written::Refused(_) => false,
+        Written::Bytes(size) => {
+            if 12422 < size {
+                return false;
+            }
+            reads_as(&text[..size], times, arrows.len(), output)
+        }
+    }
+}
+
+// What is said of the graph, and of the graph written and read again.
+fn graph_agrees(times: &[u16], arrows: &[[u16; 2]], output: &[u8]) -> bool {
+    if !table_agrees(times, arrows, output) {
+        return false;
+    }
+    written_agrees(times, arrows, output)
+}
+
 // "refused," and the number.
 fn refusal_agrees(refusal: Refusal, output: &[u8]) -> bool {
     if output.len() < 9 {
@@ -150,7 +221,7 @@ pub fn agrees(text: &[u8], output: &[u8]) -> bool {
         Counts::Read(size) => {
             let subtasks = size.subtasks;
             let count = size.arrows;
-            table_agrees(&times[..subtasks], &arrows[..count], output)
+            graph_agrees(&times[..subtasks], &arrows[..count], output)
         }
     }
 }

@@ -15,8 +15,8 @@ mod tables;
 use families::{families, Sample};
 use std::hint::black_box;
 use std::time::Instant;
-use tables::Row;
-use zulagbemi::{Arrow, Entry, Graph, MAX_ARROWS, MAX_SUBTASKS};
+use tables::{Row, Rows};
+use zulagbemi::{Arrow, Entry, Graph, MAX_ARROWS, MAX_SUBTASKS, MAX_WRITTEN};
 
 const M: u32 = 4;
 const D: u32 = 1000;
@@ -44,13 +44,23 @@ fn plans(s: &Sample, list: impl Fn(&mut [(u8, u32)]) -> Result<u32, u32>) -> (Ve
     (ours, theirs)
 }
 
+/// Two rooms for the text, in which both writers must have written the same.
+fn rooms(s: &Sample) -> (Vec<u8>, Vec<u8>) {
+    let (mut ours, mut theirs) = (vec![0; MAX_WRITTEN], vec![0; MAX_WRITTEN]);
+    let size = s.graph().write_stg(&mut ours).expect("an accepted graph");
+    assert_eq!(plain::write_stg(&s.times, &s.pairs, &mut theirs), Ok(size));
+    assert_eq!(ours, theirs);
+    (ours, theirs)
+}
+
 /// Every call against plain Rust.
-fn against_plain(s: &Sample) -> [Row; 6] {
+fn against_plain(s: &Sample) -> Rows {
     let (t, a, order) = (&s.times[..], &s.pairs[..], &s.order[..]);
     let (plan, pairs) = plans(s, |row| plain::list_plan(t, a, M, order, row));
     let (mut ours, mut theirs) = (plan.clone(), pairs.clone());
     let (mut times, mut arrows) = (vec![0u16; MAX_SUBTASKS], vec![Arrow::default(); MAX_ARROWS]);
     let (mut times2, mut arrows2) = (vec![0u16; MAX_SUBTASKS], vec![[0u16; 2]; MAX_ARROWS]);
+    let (mut room, mut room2) = rooms(s);
     let g = || Graph::new(black_box(t), &s.arrows);
     let read = |row: &mut [u16], arrows: &mut [Arrow]| Graph::read_stg(black_box(&s.text), row, arrows).is_ok();
     let n = 300;
@@ -61,6 +71,7 @@ fn against_plain(s: &Sample) -> [Row; 6] {
         least(n, || g().list_plan(M, order, &mut ours), || plain::list_plan(black_box(t), a, M, order, &mut theirs)),
         least(n, || g().check_plan(M, &plan), || plain::check_plan(black_box(t), a, M, &pairs)),
         least(n, || read(&mut times, &mut arrows), || plain::read_stg(black_box(&s.text), &mut times2, &mut arrows2)),
+        least(n, || g().write_stg(&mut room), || plain::write_stg(black_box(t), a, &mut room2)),
     ]
     .map(|(proved, other)| Row::new(s, proved, other))
 }
@@ -79,7 +90,7 @@ fn against_model(s: &Sample) -> [(&'static str, f64); 3] {
 }
 
 fn main() {
-    let rows: Vec<[Row; 6]> = [16, 64, 256].into_iter().flat_map(families).map(|s| against_plain(&s)).collect();
+    let rows: Vec<Rows> = [16, 64, 256].into_iter().flat_map(families).map(|s| against_plain(&s)).collect();
     if std::env::args().any(|word| word == "--rows") {
         tables::rows(&rows);
     }

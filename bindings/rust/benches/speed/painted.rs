@@ -3,7 +3,7 @@
 
 use crate::families::Sample;
 use std::hint::black_box;
-use zulagbemi::{Arrow, Entry, Graph, MAX_ARROWS, MAX_SUBTASKS};
+use zulagbemi::{Arrow, Entry, Graph, MAX_ARROWS, MAX_SUBTASKS, MAX_WRITTEN};
 
 const PAINT: u8 = 0xA5;
 const DEEP: usize = 256 * 1024;
@@ -53,6 +53,7 @@ pub fn depths(sample: &Sample) -> Vec<(&'static str, usize)> {
     g.list_plan(4, order, &mut plan).unwrap();
     let fixed = plan.clone();
     let (mut times, mut arrows) = (vec![0u16; MAX_SUBTASKS], vec![Arrow::default(); MAX_ARROWS]);
+    let mut room = vec![0u8; MAX_WRITTEN];
     let none = on_thread(|| {});
     let deep = [
         ("total work", on_thread(|| done(black_box(g.total_work())))),
@@ -61,6 +62,7 @@ pub fn depths(sample: &Sample) -> Vec<(&'static str, usize)> {
         ("list plan", on_thread(|| done(black_box(g.list_plan(4, order, &mut plan))))),
         ("plan check", on_thread(|| done(black_box(g.check_plan(4, &fixed))))),
         ("reader", on_thread(|| done(black_box(Graph::read_stg(&sample.text, &mut times, &mut arrows))))),
+        ("writer", on_thread(|| done(black_box(g.write_stg(&mut room))))),
     ];
     deep.map(|(call, deep)| (call, deep.saturating_sub(none))).into()
 }

@@ -3,13 +3,14 @@
 use crate::families::Sample;
 
 /// Each call, and the ratio that is aimed at.
-const CALLS: [(&str, f64); 6] = [
+const CALLS: [(&str, f64); 7] = [
     ("total work", 1.1),
     ("longest path", 1.1),
     ("verdict", 1.1),
     ("list plan", 1.1),
     ("plan check", 1.1),
     ("reader", 1.1),
+    ("writer", 1.1),
 ];
 
 /// The families whose arrows grow in proportion to their subtasks.
@@ -34,6 +35,9 @@ impl Row {
     }
 }
 
+/// Every call on one graph.
+pub type Rows = [Row; CALLS.len()];
+
 /// The middle one of some ratios, and the largest.
 fn typical_and_worst(mut ratios: Vec<f64>) -> (f64, f64) {
     ratios.sort_by(f64::total_cmp);
@@ -45,7 +49,7 @@ fn head(columns: &[&str]) {
 }
 
 /// Every ratio.
-pub fn rows(rows: &[[Row; 6]]) {
+pub fn rows(rows: &[Rows]) {
     head(&["family", "subtasks", "arrows", "call", "proved, ns", "plain, ns", "ratio"]);
     for graph in rows {
         for (r, (call, _)) in graph.iter().zip(CALLS) {
@@ -57,7 +61,7 @@ pub fn rows(rows: &[[Row; 6]]) {
 }
 
 /// How many times as long the families that grow evenly take at the largest size as at the smallest: least and most.
-fn growth(rows: &[[Row; 6]], call: usize) -> (f64, f64) {
+fn growth(rows: &[Rows], call: usize) -> (f64, f64) {
     let times = EVEN.map(|family| {
         let took: Vec<f64> = rows.iter().filter(|graph| graph[0].family == family).map(|g| g[call].proved).collect();
         took[took.len() - 1] / took[0]
@@ -66,7 +70,7 @@ fn growth(rows: &[[Row; 6]], call: usize) -> (f64, f64) {
 }
 
 /// For each call the typical and the worst ratio over all graphs, the time on the largest one, and how it grows.
-pub fn by_call(rows: &[[Row; 6]]) {
+pub fn by_call(rows: &[Rows]) {
     head(&["call", "aim", "typical", "worst", "worst on", "dense 256, µs", "from 16 to 256 subtasks"]);
     for (k, (call, aim)) in CALLS.iter().enumerate() {
         let of_call = || rows.iter().map(|graph| &graph[k]);
@@ -83,12 +87,12 @@ pub fn by_call(rows: &[[Row; 6]]) {
 }
 
 /// For each family and call the typical and the worst ratio over the three sizes.
-pub fn by_family(rows: &[[Row; 6]]) {
+pub fn by_family(rows: &[Rows]) {
     let calls = CALLS.map(|(call, _)| call);
     head(&[&["family"], &calls[..]].concat());
     for first in rows.iter().take_while(|graph| graph[0].subtasks <= 16) {
         let family = first[0].family;
-        let sizes: Vec<&[Row; 6]> = rows.iter().filter(|graph| graph[0].family == family).collect();
+        let sizes: Vec<&Rows> = rows.iter().filter(|graph| graph[0].family == family).collect();
         let cells = (0..CALLS.len()).map(|k| {
             let (typical, worst) = typical_and_worst(sizes.iter().map(|graph| graph[k].ratio()).collect());
             format!("{typical:.2}, {worst:.2}")

@@ -1,10 +1,10 @@
 //! One input to the planner and to the model, and the replies and rows compared.
 
-use crate::common::graphs::{graph, processors};
+use crate::common::graphs::{graph, processors, shuffle};
 use crate::common::random::Random;
 use crate::common::{arrows, entries};
 use crate::model;
-use zulagbemi::{Arrow, Entry, Graph, Reason, Refusal, Verdict};
+use zulagbemi::{Arrow, Entry, Graph, Reason, Refusal, Verdict, MAX_WRITTEN};
 
 /// The reply with its refusal as the bare number, which must be one of the table.
 fn number<T>(reply: Result<T, Refusal>) -> Result<T, u32> {
@@ -80,6 +80,54 @@ impl Case {
         let reply = number(g.check_plan(m, &entries(plan)));
         assert_eq!(reply, model::check_plan(&self.times, &self.pairs, m, plan), "{g:?} {m} {plan:?}");
         reply
+    }
+
+    /// The model's text, empty where it refuses.
+    fn text(&self) -> Vec<u8> {
+        let mut text = vec![0; MAX_WRITTEN];
+        let size = model::write_stg(&self.times, &self.pairs, &mut text).unwrap_or(0);
+        text.truncate(size);
+        text
+    }
+
+    /// Compares the two writers in a room near the text's length, the room after the call too. What was written is read
+    /// again by both readers, and must be the graph with its arrows by "to" and then "from". Answers the number.
+    pub fn same_text(&self, random: &mut Random) -> u32 {
+        let g = self.graph();
+        let size = self.text().len();
+        let room = match random.below(6) {
+            0 => random.below(size as u64 + 1) as usize,
+            1 => size.saturating_sub(1),
+            2 => size,
+            _ => size + random.below(40) as usize,
+        };
+        let before: Vec<u8> = (0..room).map(|_| random.below(256) as u8).collect();
+        let (mut ours, mut theirs) = (before.clone(), before);
+        let reply = number(g.write_stg(&mut ours));
+        assert_eq!(reply, model::write_stg(&self.times, &self.pairs, &mut theirs), "{g:?} {room}");
+        assert_eq!(ours, theirs, "{g:?} {room}");
+        if let Ok(size) = reply {
+            assert_eq!(same_reading(&ours[..size], (256, 2048)), 0, "{g:?}");
+            let mut sorted = self.pairs.clone();
+            sorted.sort_unstable_by_key(|a| (a[1], a[0]));
+            assert_eq!(model::read_stg(&ours[..size], 256, 2048), Ok((self.times.clone(), sorted)), "{g:?}");
+        }
+        reply.err().unwrap_or(0)
+    }
+
+    /// A graph with the same times and arrows has the same text, and one that differs in a time or an arrow another.
+    pub fn text_tells_graph(&self, random: &mut Random) {
+        let text = self.graph().to_stg().unwrap();
+        let mut row = self.arrows.clone();
+        shuffle(random, &mut row);
+        assert_eq!(Graph::new(&self.times, &row).to_stg().unwrap(), text, "{row:?}");
+        if row.pop().is_some() {
+            assert_ne!(Graph::new(&self.times, &row).to_stg().unwrap(), text, "{row:?}");
+        }
+        let mut times = self.times.clone();
+        let at = random.below(times.len() as u64) as usize;
+        times[at] = times[at] % 65_535 + 1;
+        assert_ne!(Graph::new(&times, &self.arrows).to_stg().unwrap(), text, "{times:?}");
     }
 }
 

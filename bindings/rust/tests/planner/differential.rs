@@ -127,3 +127,21 @@ fn texts() {
         assert!(counts[k] > 0, "no text was answered {k}");
     }
 }
+
+#[test]
+fn written_texts() {
+    let mut random = Random(4);
+    let mut counts = [0u64; 25];
+    for _ in 0..cases() {
+        let case = Case::new(&mut random);
+        let number = case.same_text(&mut random);
+        counts[number as usize] += 1;
+        if number == 0 {
+            case.text_tells_graph(&mut random);
+        }
+    }
+    println!("written texts by number: {counts:?}");
+    for k in [0, 1, 2, 3, 4, 5, 6, 7, 11] {
+        assert!(counts[k] > 0, "no graph was answered {k}");
+    }
+}

@@ -26,3 +26,10 @@ p3  |3----------|           |6----------------------|8----------------------|
 ";
     assert_eq!(on_g("chart", &["3"]), expected);
 }
+
+/// A text in another spelling: CR LF, tabs, zeros in front, predecessors in any order, a bare exit line, a comment.
+#[test]
+fn rewrite() {
+    let spelt = "3\r\n0 0 0\r\n1\t007 2 3 2\r\n2 5 0\r\n 3 1 1 2\r\n4 0 0\r\n# checked\r\n";
+    assert_eq!(example("rewrite", &[], spelt), "3\n0 0 0\n1 7 2 2 3\n2 5 1 0\n3 1 1 2\n4 0 1 1\n");
+}

@@ -27,6 +27,7 @@ fn limits() {
         ("MAX_DEADLINE", zulagbemi::MAX_DEADLINE.into()),
         ("MAX_START", zulagbemi::MAX_START.into()),
         ("MAX_TEXT", zulagbemi::MAX_TEXT as u64),
+        ("MAX_WRITTEN", zulagbemi::MAX_WRITTEN as u64),
     ];
     for (name, limit) in limits {
         assert_eq!(defined(&header, name), limit, "{name}");

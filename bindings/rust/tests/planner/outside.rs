@@ -64,6 +64,28 @@ fn texts_from_outside() {
     }
 }
 
+/// Each stored text that reads, written and read again: the same times, the same arrows by "to" and then "from", and
+/// written once more the same text.
+#[test]
+fn texts_written_again() {
+    let mut written = 0;
+    for file in texts() {
+        let text = fs::read(&file).unwrap();
+        let (mut times, mut arrows) = ([0; MAX_SUBTASKS], [Arrow::default(); MAX_ARROWS]);
+        let Ok(graph) = Graph::read_stg(&text, &mut times, &mut arrows) else { continue };
+        let first = graph.to_stg().unwrap();
+        let (mut times, mut arrows) = ([0; MAX_SUBTASKS], [Arrow::default(); MAX_ARROWS]);
+        let again = Graph::read_stg(first.as_bytes(), &mut times, &mut arrows).unwrap();
+        assert_eq!(again.times(), graph.times(), "{}", file.display());
+        let mut sorted = graph.arrows().to_vec();
+        sorted.sort_unstable_by_key(|a| (a.to, a.from));
+        assert_eq!(again.arrows(), sorted, "{}", file.display());
+        assert_eq!(again.to_stg().unwrap(), first, "{}", file.display());
+        written += 1;
+    }
+    assert!(written > 20);
+}
+
 /// The bench program `frames`, to the byte, on every outside text. It is built by `rt`, and not tried where there is none.
 #[test]
 fn bench_program() {

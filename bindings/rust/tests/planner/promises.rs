@@ -3,7 +3,7 @@
 use crate::common::ran;
 use crate::{families, painted};
 use std::process::Command;
-use zulagbemi::Entry;
+use zulagbemi::{Arrow, Entry, Graph, MAX_ARROWS, MAX_SUBTASKS, MAX_TIME, MAX_WRITTEN};
 
 #[test]
 fn less_than_16_kib_of_stack() {
@@ -12,6 +12,17 @@ fn less_than_16_kib_of_stack() {
         assert!(deep > 1024, "{call}: {deep} bytes, which is too little to be true");
         assert!(deep < 16 * 1024, "{call}: {deep} bytes");
     }
+}
+
+/// The longest text: 2,048 arrows from 22 subtasks with numbers of three digits to 94 others, each of which has 10 of them
+/// or more before it.
+#[test]
+fn longest_text() {
+    let first = |to: u16| if to <= 2 { 245 } else { 235 };
+    let arrows: Vec<Arrow> = (1..=94).flat_map(|to| (first(to)..=256).map(move |from| Arrow::new(from, to))).collect();
+    assert_eq!(arrows.len(), MAX_ARROWS);
+    let text = Graph::new(&[MAX_TIME; MAX_SUBTASKS], &arrows).to_stg().unwrap();
+    assert_eq!(text.len(), MAX_WRITTEN);
 }
 
 #[test]

@@ -5,7 +5,7 @@ mod plans;
 mod texts;
 
 pub use plans::{check_plan, list_plan};
-pub use texts::read_stg;
+pub use texts::{read_stg, write_stg};
 
 /// What a plan holds for one subtask.
 pub type Entry = (u8, u32);

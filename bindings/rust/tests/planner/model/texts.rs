@@ -1,4 +1,4 @@
-//! The reader.
+//! The reader and the writer.
 
 use super::graph_number;
 
@@ -87,4 +87,34 @@ fn numbers(line: &[u8]) -> Option<Vec<u64>> {
             digits.then(|| f.iter().fold(0, |v, b| v * 10 + u64::from(b - b'0')))
         })
         .collect()
+}
+
+/// The graph as a text, put at the front of the room; answers its length.
+pub fn write_stg(times: &[u16], arrows: &[[u16; 2]], room: &mut [u8]) -> Result<usize, u32> {
+    match graph_number(times, arrows) {
+        0 => {
+            let text = written(times, arrows);
+            room.get_mut(..text.len()).ok_or(11u32)?.copy_from_slice(text.as_bytes());
+            Ok(text.len())
+        }
+        k => Err(k),
+    }
+}
+
+/// The count of subtasks, then the lines of tasks 0 to n+1.
+fn written(times: &[u16], arrows: &[[u16; 2]]) -> String {
+    let n = times.len() as u16;
+    let mut lines: Vec<Vec<u16>> = vec![vec![n], vec![0, 0, 0]];
+    for (j, time) in (1..=n).zip(times) {
+        let mut before: Vec<u16> = arrows.iter().filter(|a| a[1] == j).map(|a| a[0]).collect();
+        before.sort_unstable();
+        if before.is_empty() {
+            before.push(0);
+        }
+        lines.push([vec![j, *time, before.len() as u16], before].concat());
+    }
+    let last: Vec<u16> = (1..=n).filter(|j| arrows.iter().all(|a| a[0] != *j)).collect();
+    lines.push([vec![n + 1, 0, last.len() as u16], last].concat());
+    let line = |numbers: &Vec<u16>| numbers.iter().map(u16::to_string).collect::<Vec<_>>().join(" ") + "\n";
+    lines.iter().map(line).collect()
 }

@@ -13,7 +13,7 @@ use Rattle.vectors.proofs.stored.agrees.Reads as reads
 use Rattle.vectors.proofs.stored.agrees.Lts as lts
 use Rattle.stg.proofs.read_stg.Reads as read-stg-reads
 use Rattle.vectors.proofs.stored.refusal_agrees.Reads as refusal-agrees-reads
-use Rattle.vectors.proofs.stored.table_agrees.Reads as table-agrees-reads
+use Rattle.vectors.proofs.stored.graph_agrees.Reads as graph-agrees-reads
 
 slice-aggregate-read-stg : tie.Need-slice-aggregate-read-stg
 slice-aggregate-read-stg c = search needs
@@ -38,8 +38,8 @@ sizes : (c : lts.After-known-told2 (
   read-stg-reads.Learnt,
   refusal-agrees-reads.Asked,
   refusal-agrees-reads.Learnt,
-  table-agrees-reads.Asked,
-  table-agrees-reads.Learnt,
+  graph-agrees-reads.Asked,
+  graph-agrees-reads.Learnt,
 ) reads.Pre reads.Post)
     → (c .before .size .given .0 .0 .subtasks ≤ 256) × (c .before .size .given .0 .0 .arrows ≤ 2048)
 sizes c = read-sizes _ _ _ _ _ _ (rw (c .before .size .given .1) at (c .before .before .before .before .before .read-stg .ensures))
@@ -47,19 +47,19 @@ sizes c = read-sizes _ _ _ _ _ _ (rw (c .before .size .given .1) at (c .before .
 array-share-prefix-times : tie.Need-array-share-prefix-times
 array-share-prefix-times c = omega (arith, sizes c .0, c .before .before .before .before .times2 .given, length-replicate {A = ℕ} 256 0)
 
-slice-aggregate-table-agrees : tie.Need-slice-aggregate-table-agrees
-slice-aggregate-table-agrees c = sym (length-take-le _ _ (array-share-prefix-times (c .before)))
+slice-aggregate-graph-agrees : tie.Need-slice-aggregate-graph-agrees
+slice-aggregate-graph-agrees c = sym (length-take-le _ _ (array-share-prefix-times (c .before)))
 
 array-share-prefix-arrows : tie.Need-array-share-prefix-arrows
 array-share-prefix-arrows c =
     let c-arrows2 = c .before .before .before .before .arrows2 in
     omega (arith, sizes (c .before) .1, c-arrows2 .given, length-replicate {A = List ℕ} 2048 (0 ∷ 0 ∷ []))
 
-slice-aggregate-table-agrees-2 : tie.Need-slice-aggregate-table-agrees-2
-slice-aggregate-table-agrees-2 c = sym (length-take-le _ _ (array-share-prefix-arrows (c .before)))
+slice-aggregate-graph-agrees-2 : tie.Need-slice-aggregate-graph-agrees-2
+slice-aggregate-graph-agrees-2 c = sym (length-take-le _ _ (array-share-prefix-arrows (c .before)))
 
-table-agrees-requires : tie.Need-table-agrees-requires
-table-agrees-requires c κs = search needs
+graph-agrees-requires : tie.Need-graph-agrees-requires
+graph-agrees-requires c κs = search needs
 
 returns : tie.Need-returns
 returns c = search needs
@@ -78,9 +78,9 @@ agrees-spec =
     refusal-agrees-requires
     enum-known-size
     array-share-prefix-times
-    slice-aggregate-table-agrees
+    slice-aggregate-graph-agrees
     array-share-prefix-arrows
-    slice-aggregate-table-agrees-2
-    table-agrees-requires
+    slice-aggregate-graph-agrees-2
+    graph-agrees-requires
     returns
     returns-2)
