@@ -17,6 +17,7 @@ pub mod ReadSizes
 pub mod Work
 pub mod Paths
 pub mod Longest
+pub mod Reaching
 -- plans
 pub mod Ends
 pub mod Running
