@@ -7,8 +7,10 @@
  * valid for as many elements as the length beside it says, and a row that is written overlaps nothing else of the call.
  * Where the length is 0 the pointer is not used and may be null.
  *
- * Replies. A call that succeeds has number 0 (ZUL_OK). Otherwise number says why the input was refused, and every
- * other field of the reply is 0.
+ * Replies. Every reply begins with number, place and second. A call that succeeds has 0 (ZUL_OK) in all three. Otherwise
+ * number says why the input was refused, place where it is wrong (a subtask's number, an arrow's position from 1 on or an
+ * instant in microseconds, whichever the table "Numbers of refusal" gives for the number; 0 where it gives none), and
+ * second the higher subtask of a pair (ZUL_REFUSED_OVERLAP; else 0). With a refusal every field after them is 0.
  *
  * Threads. No call keeps anything between calls, so any number of threads may call at once on rows that none of them
  * writes meanwhile.
@@ -26,9 +28,9 @@
 extern "C" {
 #endif
 
-#define ZUL_VERSION "0.2.0"
+#define ZUL_VERSION "0.3.0"
 #define ZUL_VERSION_MAJOR 0
-#define ZUL_VERSION_MINOR 2
+#define ZUL_VERSION_MINOR 3
 #define ZUL_VERSION_PATCH 0
 
 /* The limits ("Numbers"). */
@@ -41,7 +43,7 @@ extern "C" {
 #define ZUL_MAX_TEXT 60000       /* bytes of an STG text */
 #define ZUL_MAX_WRITTEN 12422    /* bytes of an STG text that zul_write_stg writes */
 
-/* The numbers of refusal ("Numbers of refusal": who asks which, in which order). More may be added.
+/* The numbers of refusal ("Numbers of refusal": who asks which, in which order, and what its place is). More may be added.
  * begin: bindings/refusals.sh, from refusals.txt */
 typedef enum {
     ZUL_OK                        =  0, /* accepted */
@@ -98,7 +100,45 @@ static inline const char *zul_meaning(uint32_t number) {
         default: return "a number that is not in the table";
     }
 }
+
+/* The same with a # where its place stands, and where the second number does. */
+static inline const char *zul_pattern(uint32_t number) {
+    switch (number) {
+        case ZUL_REFUSED_TIME_ZERO: return "the time of subtask # is 0";
+        case ZUL_REFUSED_ARROW_OUTSIDE: return "arrow # names a subtask outside 1 to n";
+        case ZUL_REFUSED_ARROW_TO_ITSELF: return "arrow # leads from a subtask to itself";
+        case ZUL_REFUSED_ARROW_TWICE: return "arrow # stands twice";
+        case ZUL_REFUSED_CYCLE: return "the arrows close a cycle through subtask #";
+        case ZUL_REFUSED_PROCESSOR_OUTSIDE: return "the plan puts subtask # on a processor outside 1 to M";
+        case ZUL_REFUSED_START_LARGE: return "subtask # starts after 16,776,960 \u00b5s";
+        case ZUL_REFUSED_START_EARLY: return "subtask # starts before a predecessor ends";
+        case ZUL_REFUSED_OVERLAP: return "subtasks # and # share an instant on one processor";
+        case ZUL_REFUSED_IDLE: return "at # \u00b5s a subtask is ready and a processor is free";
+        default: return zul_meaning(number);
+    }
+}
 /* end: bindings/refusals.sh */
+
+/* What a refusal says, with its place: "arrow 17 stands twice". The text is put into a buffer of this size and is UTF-8. It
+ * always ends with a 0 byte, for which it is cut where the size is too small (128 is always enough); nothing is written
+ * past the size, and nothing at all where it is 0. The reply is the length of the whole text without its 0 byte. */
+static inline size_t zul_say(uint32_t number, uint32_t place, uint32_t second, char *text, size_t size) {
+    size_t len = 0;
+    for (const char *next = zul_pattern(number); *next != 0; next++) {
+        char said[10]; /* a byte of the pattern, or the digits of a number, at the end */
+        size_t at = sizeof said - 1;
+        said[at] = *next;
+        if (*next == '#') {
+            said[at] = (char)('0' + place % 10);
+            while ((place /= 10) != 0) said[--at] = (char)('0' + place % 10);
+            place = second;
+        }
+        for (; at < sizeof said; at++, len++)
+            if (len + 1 < size) text[len] = said[at];
+    }
+    if (size != 0) text[len < size ? len : size - 1] = 0;
+    return len;
+}
 
 /* `to` starts when `from` has ended. */
 typedef struct { uint16_t from, to; } zul_arrow;
@@ -107,20 +147,20 @@ typedef struct { uint16_t from, to; } zul_arrow;
 typedef struct { uint8_t processor; uint32_t start; } zul_entry;
 
 /* C or P. */
-typedef struct { uint32_t number, value; } zul_amount;
+typedef struct { uint32_t number, place, second, value; } zul_amount;
 
 /* C (total work), P (longest path), S = C + (m - 1) * P, the load C / (m * d) rounded once. Where fits is 1 the margin
  * is the spare m * d - S, where it is 0 the shortfall S - m * d. */
-typedef struct { uint32_t number, c, p, s; float load; uint32_t fits, margin; } zul_answer;
+typedef struct { uint32_t number, place, second, c, p, s; float load; uint32_t fits, margin; } zul_answer;
 
 /* Where a plan ends. */
-typedef struct { uint32_t number, end; } zul_plan_end;
+typedef struct { uint32_t number, place, second, end; } zul_plan_end;
 
 /* How many subtasks and arrows a text has. */
-typedef struct { uint32_t number, subtasks, arrows; } zul_counts;
+typedef struct { uint32_t number, place, second, subtasks, arrows; } zul_counts;
 
 /* How many bytes were written. */
-typedef struct { uint32_t number, bytes; } zul_written;
+typedef struct { uint32_t number, place, second, bytes; } zul_written;
 
 /* The layouts that the archive was compiled for. */
 #if defined(__cplusplus) && __cplusplus >= 201103L
@@ -132,11 +172,11 @@ typedef struct { uint32_t number, bytes; } zul_written;
 ZUL_LAYOUT(sizeof(size_t) == 8);
 ZUL_LAYOUT(sizeof(zul_arrow) == 4 && offsetof(zul_arrow, to) == 2);
 ZUL_LAYOUT(sizeof(zul_entry) == 8 && offsetof(zul_entry, start) == 4);
-ZUL_LAYOUT(sizeof(zul_amount) == 8 && offsetof(zul_amount, value) == 4);
-ZUL_LAYOUT(sizeof(zul_answer) == 28 && offsetof(zul_answer, load) == 16 && offsetof(zul_answer, margin) == 24);
-ZUL_LAYOUT(sizeof(zul_plan_end) == 8 && offsetof(zul_plan_end, end) == 4);
-ZUL_LAYOUT(sizeof(zul_counts) == 12 && offsetof(zul_counts, arrows) == 8);
-ZUL_LAYOUT(sizeof(zul_written) == 8 && offsetof(zul_written, bytes) == 4);
+ZUL_LAYOUT(sizeof(zul_amount) == 16 && offsetof(zul_amount, value) == 12);
+ZUL_LAYOUT(sizeof(zul_answer) == 36 && offsetof(zul_answer, load) == 24 && offsetof(zul_answer, margin) == 32);
+ZUL_LAYOUT(sizeof(zul_plan_end) == 16 && offsetof(zul_plan_end, end) == 12);
+ZUL_LAYOUT(sizeof(zul_counts) == 20 && offsetof(zul_counts, arrows) == 16);
+ZUL_LAYOUT(sizeof(zul_written) == 16 && offsetof(zul_written, bytes) == 12);
 #undef ZUL_LAYOUT
 #endif
 

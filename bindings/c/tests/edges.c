@@ -1,6 +1,8 @@
-/* What the header promises at the edges: a null pointer beside the length 0 is fine in every call, and every number has
- * a text. Prints the texts of 0 to 99, for the tests to compare with the Rust crate's; fails where a reply is wrong. */
+/* What the header promises at the edges: a null pointer beside the length 0 is fine in every call, a refusal has its place,
+ * and every number has a text. Fails where a reply is wrong. Prints the texts of 0 to 99, then what zul_say makes of each
+ * number, place and second number among its words, for the tests to compare with the Rust crate's. */
 #include <stdio.h>
+#include <stdlib.h>
 #include <string.h>
 #include <zulagbemi.h>
 
@@ -11,6 +13,10 @@ static void expect(const char *what, uint32_t got, uint32_t expected) {
     fprintf(stderr, "%s: %u, not %u\n", what, (unsigned)got, (unsigned)expected);
     wrong = 1;
 }
+
+/* The three numbers that every reply begins with. It asks for the reply three times. */
+#define EXPECT_REPLY(what, reply, why, where, other) \
+    (expect(what, (reply).number, why), expect(what, (reply).place, where), expect(what, (reply).second, other))
 
 static uint16_t times[ZUL_MAX_SUBTASKS];
 static zul_arrow arrows[ZUL_MAX_ARROWS];
@@ -56,11 +62,73 @@ static void one_text(void) {
     expect("the text", memcmp(room, expected, sizeof room) == 0, 1);
 }
 
-int main(void) {
+/* Where it is wrong, in every kind of reply; what stands after it is 0. */
+static void places(void) {
+    static const uint16_t longer[3] = {3, 4, 5};
+    static const zul_arrow twice[3] = {{1, 2}, {2, 3}, {2, 3}}, cycle[3] = {{1, 2}, {2, 3}, {3, 2}};
+    static const zul_entry shared[3] = {{1, 0}, {2, 0}, {2, 3}};
+    static const uint8_t text[] = "2\n0 0 0\n1 5 0\n2 0 0\n3 0 0\n";
+
+    zul_amount amount = zul_total_work(longer, 3, twice, 3);
+    EXPECT_REPLY("an arrow twice", amount, ZUL_REFUSED_ARROW_TWICE, 3, 0);
+    expect("no total work", amount.value, 0);
+    zul_answer answer = zul_judge(longer, 3, cycle, 3, 1, 1);
+    EXPECT_REPLY("a cycle", answer, ZUL_REFUSED_CYCLE, 2, 0);
+    expect("no figures", answer.c | answer.p | answer.s | answer.fits | answer.margin | (answer.load != 0), 0);
+    zul_plan_end checked = zul_check_plan(longer, 3, NULL, 0, 2, shared, 3);
+    EXPECT_REPLY("a shared instant", checked, ZUL_REFUSED_OVERLAP, 2, 3);
+    expect("no end", checked.end, 0);
+    zul_counts counts = zul_read_stg(text, sizeof text - 1, times, ZUL_MAX_SUBTASKS, arrows, ZUL_MAX_ARROWS);
+    EXPECT_REPLY("a time of 0", counts, ZUL_REFUSED_TIME_ZERO, 2, 0);
+    expect("no counts", counts.subtasks | counts.arrows, 0);
+    zul_written written = zul_write_stg(longer, 3, twice, 3, NULL, 0);
+    EXPECT_REPLY("nothing to write", written, ZUL_REFUSED_ARROW_TWICE, 3, 0);
+    expect("no bytes", written.bytes, 0);
+}
+
+/* What is accepted has no place. */
+static void no_place(void) {
+    static const uint8_t text[] = "1\n0 0 0\n1 3 1 0\n2 0 1 1\n";
+    uint8_t room[ZUL_MAX_WRITTEN];
+    EXPECT_REPLY("longest path", zul_longest_path(three, 1, NULL, 0), ZUL_OK, 0, 0);
+    EXPECT_REPLY("verdict", zul_judge(three, 1, NULL, 0, 1, 3), ZUL_OK, 0, 0);
+    EXPECT_REPLY("list plan", zul_list_plan(three, 1, NULL, 0, 1, order, 1, plan, 1), ZUL_OK, 0, 0);
+    EXPECT_REPLY("plan check", zul_check_plan(three, 1, NULL, 0, 1, plan, 1), ZUL_OK, 0, 0);
+    EXPECT_REPLY("reader", zul_read_stg(text, sizeof text - 1, times, ZUL_MAX_SUBTASKS, arrows, ZUL_MAX_ARROWS), ZUL_OK, 0, 0);
+    EXPECT_REPLY("writer", zul_write_stg(three, 1, NULL, 0, room, sizeof room), ZUL_OK, 0, 0);
+}
+
+/* zul_say in buffers of every size up to the whole text and its end: what fits, a 0 byte, and no byte past the size. */
+static void cut(void) {
+    static const char whole[] = "subtasks 7 and 4294967295 share an instant on one processor";
+    const size_t len = sizeof whole - 1;
+    char text[sizeof whole + 1];
+    for (size_t size = 0; size <= sizeof whole; size++) {
+        memset(text, '?', sizeof text);
+        expect("length", (uint32_t)zul_say(ZUL_REFUSED_OVERLAP, 7, UINT32_MAX, text, size), (uint32_t)len);
+        if (size > 0) expect("the bytes", memcmp(text, whole, size - 1) == 0 && text[size - 1] == 0, 1);
+        expect("past the size", text[size] == '?', 1);
+    }
+    expect("no buffer", (uint32_t)zul_say(ZUL_REFUSED_OVERLAP, 7, UINT32_MAX, NULL, 0), (uint32_t)len);
+    for (uint32_t number = 0; number < 100; number++)
+        expect("128 bytes", zul_say(number, UINT32_MAX, UINT32_MAX, NULL, 0) < 128, 1);
+}
+
+static uint32_t number_of(const char *word) { return (uint32_t)strtoul(word, NULL, 10); }
+
+int main(int argc, char **argv) {
     no_graph();
     no_arrows();
     no_row();
     one_text();
+    places();
+    no_place();
+    cut();
     for (uint32_t number = 0; number < 100; number++) printf("%u %s\n", (unsigned)number, zul_meaning(number));
+    for (int at = 1; at + 2 < argc; at += 3) {
+        char said[128];
+        zul_say(number_of(argv[at]), number_of(argv[at + 1]), number_of(argv[at + 2]), said, sizeof said);
+        printf("%s\n", said);
+    }
     return wrong;
 }

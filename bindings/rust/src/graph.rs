@@ -16,8 +16,8 @@ impl<'a> Graph<'a> {
     }
 
     /// Reads a text in the layout of the Standard Task Graph Set (`docs/PLANNER.md`, "STG text") into two lent rows of
-    /// at least [`MAX_SUBTASKS`] times and [`MAX_ARROWS`] arrows, and answers the graph in them. Places past the last
-    /// time and the last arrow are 0; with a refusal all are.
+    /// at least [`MAX_SUBTASKS`](crate::MAX_SUBTASKS) times and [`MAX_ARROWS`](crate::MAX_ARROWS) arrows, and answers the
+    /// graph in them. Places past the last time and the last arrow are 0; with a refusal all are.
     ///
     /// ```
     /// use zulagbemi::{Arrow, Graph, MAX_ARROWS, MAX_SUBTASKS};
@@ -26,9 +26,6 @@ impl<'a> Graph<'a> {
     /// assert_eq!(graph, Graph::new(&[5, 7], &[Arrow::new(1, 2)]));
     /// # Ok::<(), zulagbemi::Refusal>(())
     /// ```
-    ///
-    /// [`MAX_SUBTASKS`]: crate::MAX_SUBTASKS
-    /// [`MAX_ARROWS`]: crate::MAX_ARROWS
     pub fn read_stg(text: &[u8], times: &'a mut [u16], arrows: &'a mut [Arrow]) -> Result<Self, Refusal> {
         // SAFETY: each pointer is a slice's, beside that slice's length; the two rows are borrowed for this call alone.
         let r = unsafe {
@@ -41,12 +38,12 @@ impl<'a> Graph<'a> {
                 arrows.len(),
             )
         };
-        Refusal::unless(r.number, Self::new(&times[..r.subtasks as usize], &arrows[..r.arrows as usize]))
+        r.refusal.or(Self::new(&times[..r.subtasks as usize], &arrows[..r.arrows as usize]))
     }
 
     /// Writes the graph in the layout of the Standard Task Graph Set, in the one form of `docs/PLANNER.md`, "Writing", to
-    /// the front of a lent room, and answers how many bytes; [`MAX_WRITTEN`] are always enough. Bytes past the text stay
-    /// as they were; with a refusal all do.
+    /// the front of a lent room, and answers how many bytes; [`MAX_WRITTEN`](crate::MAX_WRITTEN) are always enough. Bytes
+    /// past the text stay as they were; with a refusal all do.
     ///
     /// ```
     /// use zulagbemi::{Arrow, Graph, MAX_WRITTEN};
@@ -55,8 +52,6 @@ impl<'a> Graph<'a> {
     /// assert_eq!(&room[..size], b"2\n0 0 0\n1 5 1 0\n2 7 1 1\n3 0 1 2\n");
     /// # Ok::<(), zulagbemi::Refusal>(())
     /// ```
-    ///
-    /// [`MAX_WRITTEN`]: crate::MAX_WRITTEN
     pub fn write_stg(self, text: &mut [u8]) -> Result<usize, Refusal> {
         let (times, arrows) = (self.times, self.arrows);
         // SAFETY: each pointer is a slice's, beside that slice's length; the room is borrowed for this call alone.
@@ -70,7 +65,7 @@ impl<'a> Graph<'a> {
                 text.len(),
             )
         };
-        Refusal::unless(r.number, r.bytes as usize)
+        r.refusal.or(r.bytes as usize)
     }
 
     /// The text of [`write_stg`](Self::write_stg) as a `String`. It takes the crate's feature `alloc`.
@@ -110,7 +105,7 @@ impl<'a> Graph<'a> {
         let (times, arrows) = (self.times, self.arrows);
         // SAFETY: each pointer is a slice's, beside that slice's length; the call only reads.
         let r = unsafe { linked::zul_total_work(times.as_ptr(), times.len(), arrows.as_ptr(), arrows.len()) };
-        Refusal::unless(r.number, r.value)
+        r.refusal.or(r.value)
     }
 
     /// P, the largest sum of times along any path of arrows; one subtask alone is a path.
@@ -123,7 +118,7 @@ impl<'a> Graph<'a> {
         let (times, arrows) = (self.times, self.arrows);
         // SAFETY: each pointer is a slice's, beside that slice's length; the call only reads.
         let r = unsafe { linked::zul_longest_path(times.as_ptr(), times.len(), arrows.as_ptr(), arrows.len()) };
-        Refusal::unless(r.number, r.value)
+        r.refusal.or(r.value)
     }
 
     /// Whether the graph on `m` processors fits the deadline `d`. "Fits" holds for every plan that
@@ -144,7 +139,7 @@ impl<'a> Graph<'a> {
         let verdict =
             if r.fits == 1 { Verdict::Fits { spare: r.margin } } else { Verdict::Late { shortfall: r.margin } };
         let answer = Answer { total_work: r.c, longest_path: r.p, bound: r.s, load: r.load, verdict };
-        Refusal::unless(r.number, answer)
+        r.refusal.or(answer)
     }
 
     /// Writes the list rule's plan (`docs/PLANNER.md`, "List rule") for an order of all subtasks to the first n entries
@@ -172,15 +167,16 @@ impl<'a> Graph<'a> {
                 plan.len(),
             )
         };
-        Refusal::unless(r.number, r.end)
+        r.refusal.or(r.end)
     }
 
     /// Checks a plan from anyone (`docs/PLANNER.md`, "Acceptance"), and answers where it ends.
     ///
     /// ```
-    /// use zulagbemi::{Entry, Graph, Reason};
-    /// let late = [Entry { processor: 1, start: 1 }];
-    /// assert_eq!(Graph::new(&[3], &[]).check_plan(1, &late).unwrap_err().reason(), Reason::Idle);
+    /// use zulagbemi::{Entry, Graph};
+    /// let late = [0, 7].map(|start| Entry { processor: 1, start });
+    /// let refusal = Graph::new(&[3, 4], &[]).check_plan(1, &late).unwrap_err();
+    /// assert_eq!(refusal.to_string(), "refused by 17: at 3 µs a subtask is ready and a processor is free");
     /// ```
     pub fn check_plan(self, m: u32, plan: &[Entry]) -> Result<u32, Refusal> {
         let (times, arrows) = (self.times, self.arrows);
@@ -196,6 +192,6 @@ impl<'a> Graph<'a> {
                 plan.len(),
             )
         };
-        Refusal::unless(r.number, r.end)
+        r.refusal.or(r.end)
     }
 }

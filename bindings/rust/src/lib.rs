@@ -1,8 +1,8 @@
 //! A proved planner for task graphs on up to 16 processors.
 //!
 //! A [`Graph`] is a row of times (microseconds; subtasks are numbered from 1 in row order) and a row of arrows. Its
-//! methods take any numbers and any text; what breaks a rule is refused with a [`Refusal`]. What the planner promises,
-//! and the table of refusals, stand in `docs/PLANNER.md` of the repository.
+//! methods take any numbers and any text; what breaks a rule is refused with a [`Refusal`], which says why and where. What
+//! the planner promises, and the table of refusals, stand in `docs/PLANNER.md` of the repository.
 //!
 //! ```
 //! use zulagbemi::{Arrow, Entry, Graph, Verdict};
@@ -18,6 +18,12 @@
 //! let mut plan = [Entry::default(); 3];
 //! assert_eq!(graph.list_plan(2, &[1, 2, 3], &mut plan)?, 7);
 //! assert_eq!(plan[2], Entry { processor: 2, start: 0 });
+//!
+//! // a plan in which the second starts too early is refused, with its place
+//! plan[1].start = 2;
+//! let refusal = graph.check_plan(2, &plan).unwrap_err();
+//! assert_eq!((refusal.number(), refusal.place()), (15, 2));
+//! assert_eq!(refusal.to_string(), "refused by 15: subtask 2 starts before a predecessor ends");
 //! # Ok::<(), zulagbemi::Refusal>(())
 //! ```
 //!

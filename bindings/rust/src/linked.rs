@@ -1,18 +1,18 @@
-//! The functions of the archive as they are linked, and the flat records that they reply with. Their declarations in C
-//! are `bindings/c/zulagbemi.h`; the two are held to the same layouts.
+//! The functions of the archive as they are linked, and the records that they reply with, each of which begins with a
+//! refusal. Their declarations in C are `bindings/c/zulagbemi.h`; the two are held to the same layouts.
 
-use crate::{Arrow, Entry};
+use crate::{Arrow, Entry, Refusal};
 use core::mem::{align_of, offset_of, size_of};
 
 #[repr(C)]
 pub struct Amount {
-    pub number: u32,
+    pub refusal: Refusal,
     pub value: u32,
 }
 
 #[repr(C)]
 pub struct Answer {
-    pub number: u32,
+    pub refusal: Refusal,
     pub c: u32,
     pub p: u32,
     pub s: u32,
@@ -23,20 +23,20 @@ pub struct Answer {
 
 #[repr(C)]
 pub struct PlanEnd {
-    pub number: u32,
+    pub refusal: Refusal,
     pub end: u32,
 }
 
 #[repr(C)]
 pub struct Counts {
-    pub number: u32,
+    pub refusal: Refusal,
     pub subtasks: u32,
     pub arrows: u32,
 }
 
 #[repr(C)]
 pub struct Written {
-    pub number: u32,
+    pub refusal: Refusal,
     pub bytes: u32,
 }
 
@@ -44,9 +44,10 @@ const _: () = {
     assert!(size_of::<usize>() == 8);
     assert!(size_of::<Arrow>() == 4 && align_of::<Arrow>() == 2 && offset_of!(Arrow, to) == 2);
     assert!(size_of::<Entry>() == 8 && offset_of!(Entry, start) == 4);
-    assert!(size_of::<Answer>() == 28 && offset_of!(Answer, load) == 16 && offset_of!(Answer, margin) == 24);
-    assert!(size_of::<Amount>() == 8 && size_of::<PlanEnd>() == 8 && size_of::<Counts>() == 12);
-    assert!(size_of::<Written>() == 8);
+    assert!(size_of::<Refusal>() == 12 && offset_of!(Refusal, place) == 4 && offset_of!(Refusal, second) == 8);
+    assert!(size_of::<Answer>() == 36 && offset_of!(Answer, load) == 24 && offset_of!(Answer, margin) == 32);
+    assert!(size_of::<Amount>() == 16 && size_of::<PlanEnd>() == 16 && size_of::<Counts>() == 20);
+    assert!(size_of::<Written>() == 16);
 };
 
 extern "C" {

@@ -1,5 +1,7 @@
 //! Why an input was refused. Written by `bindings/refusals.sh` from `bindings/refusals.txt`; edit that file.
 
+use core::fmt;
+
 /// Why an input was refused, one case for each number of the table (`docs/PLANNER.md`, "Numbers of refusal").
 #[derive(Clone, Copy, PartialEq, Eq, Hash, Debug)]
 #[non_exhaustive]
@@ -110,6 +112,23 @@ impl Reason {
             Self::DummyLine => "line 0 or line n+1 is not a proper dummy",
             Self::TimeLarge => "a time is above 65,535",
             Self::Unlisted => "a number that is not in the table",
+        }
+    }
+
+    /// The meaning with its place in words, where it has one.
+    pub(crate) fn say(self, place: u32, second: u32, f: &mut fmt::Formatter<'_>) -> fmt::Result {
+        match self {
+            Self::TimeZero => write!(f, "the time of subtask {place} is 0"),
+            Self::ArrowOutside => write!(f, "arrow {place} names a subtask outside 1 to n"),
+            Self::ArrowToItself => write!(f, "arrow {place} leads from a subtask to itself"),
+            Self::ArrowTwice => write!(f, "arrow {place} stands twice"),
+            Self::Cycle => write!(f, "the arrows close a cycle through subtask {place}"),
+            Self::ProcessorOutside => write!(f, "the plan puts subtask {place} on a processor outside 1 to M"),
+            Self::StartLarge => write!(f, "subtask {place} starts after 16,776,960 µs"),
+            Self::StartEarly => write!(f, "subtask {place} starts before a predecessor ends"),
+            Self::Overlap => write!(f, "subtasks {place} and {second} share an instant on one processor"),
+            Self::Idle => write!(f, "at {place} µs a subtask is ready and a processor is free"),
+            _ => f.write_str(self.meaning()),
         }
     }
 }

@@ -1,37 +1,44 @@
-// What C and Rust link: each call of the planner, its reply a flat record. Number 0 is success; with a refusal every other field is 0.
+// What C and Rust link: each call of the planner, its reply a flat record. It begins with the refusal, whose three numbers are all 0 with
+// success; with a refusal every other field is 0.
+mod flats;
+
+use crate::flats::flatten_amount;
+use crate::flats::flatten_answer;
+use crate::flats::flatten_counts;
+use crate::flats::flatten_end;
+use crate::flats::flatten_written;
 use graph::longest_path;
 use graph::total_work;
 use plans::check_plan;
 use plans::list_plan;
 use stg::read_stg;
 use stg::write_stg;
-use terms::Amount;
-use terms::Answer;
-use terms::Counts;
 use terms::Entry;
-use terms::Figures;
-use terms::Outcome;
-use terms::PlanEnd;
-use terms::Verdict;
-use terms::Written;
 use verdict::judge;
-ghost use mathlib.Core.Path.{_≡_};
 ghost use lib.ListN.{length};
 ghost use Rattle.terms.specs.Replies.{IsTotalWork, IsLongestPath, IsAnswer, IsListed, IsChecked, IsWritten};
 ghost use Rattle.terms.specs.Readings.{IsRead};
-ghost use Rattle.api.specs.Flats.{Flattens, InRange, IsShort, flatAmount, flatJudged, flatAnswer, flatEnd, flatCounts, flatWritten};
+ghost use Rattle.api.specs.Flats.{Flattens, flatAmount, flatAnswer, flatEnd, flatCounts, flatWritten};
+
+// Why a call was refused: its number, its place and its second number.
+#[repr(C)]
+pub struct FlatRefusal {
+    pub number: u32,
+    pub place: u32,
+    pub second: u32,
+}
 
 // C or P.
 #[repr(C)]
 pub struct FlatAmount {
-    pub number: u32,
+    pub refusal: FlatRefusal,
     pub value: u32,
 }
 
 // C, P, S and the load; fits 1: the margin is the spare, fits 0: it is the shortfall.
 #[repr(C)]
 pub struct FlatAnswer {
-    pub number: u32,
+    pub refusal: FlatRefusal,
     pub c: u32,
     pub p: u32,
     pub s: u32,
@@ -43,14 +50,14 @@ pub struct FlatAnswer {
 // Where a plan ends.
 #[repr(C)]
 pub struct FlatEnd {
-    pub number: u32,
+    pub refusal: FlatRefusal,
     pub end: u32,
 }
 
 // How many subtasks and arrows a text has.
 #[repr(C)]
 pub struct FlatCounts {
-    pub number: u32,
+    pub refusal: FlatRefusal,
     pub subtasks: u32,
     pub arrows: u32,
 }
@@ -58,102 +65,8 @@ pub struct FlatCounts {
 // How many bytes were written.
 #[repr(C)]
 pub struct FlatWritten {
-    pub number: u32,
+    pub refusal: FlatRefusal,
     pub bytes: u32,
-}
-
-fn flatten_amount(reply: Amount) -> FlatAmount
-    ensures { λ r. ⌜ r ≡ flatAmount reply ⌝ }
-{
-    match reply {
-        Amount::Is(value) => FlatAmount { number: 0, value },
-        Amount::Refused(refusal) => FlatAmount {
-            number: refusal.number as u32,
-            value: 0,
-        },
-    }
-}
-
-fn flatten_judged(figures: Figures, fits: u32, margin: u32) -> FlatAnswer
-    ensures { λ r. ⌜ r ≡ flatJudged figures fits margin ⌝ }
-{
-    FlatAnswer {
-        number: 0,
-        c: figures.c,
-        p: figures.p,
-        s: figures.s,
-        load: figures.load,
-        fits,
-        margin,
-    }
-}
-
-fn flatten_answer(reply: Answer) -> FlatAnswer
-    ensures { λ r. ⌜ r ≡ flatAnswer reply ⌝ }
-{
-    let figures = reply.figures;
-    let outcome = reply.outcome;
-    match outcome {
-        Outcome::Judged(verdict) => match verdict {
-            Verdict::Fits(spare) => flatten_judged(figures, 1, spare),
-            Verdict::Late(shortfall) => flatten_judged(figures, 0, shortfall),
-        },
-        Outcome::Refused(refusal) => FlatAnswer {
-            number: refusal.number as u32,
-            c: 0,
-            p: 0,
-            s: 0,
-            load: 0.0,
-            fits: 0,
-            margin: 0,
-        },
-    }
-}
-
-fn flatten_end(reply: PlanEnd) -> FlatEnd
-    ensures { λ r. ⌜ r ≡ flatEnd reply ⌝ }
-{
-    match reply {
-        PlanEnd::Ends(end) => FlatEnd { number: 0, end },
-        PlanEnd::Refused(refusal) => FlatEnd {
-            number: refusal.number as u32,
-            end: 0,
-        },
-    }
-}
-
-fn flatten_counts(reply: Counts) -> FlatCounts
-    requires { ⌜ InRange reply ⌝ }
-    ensures { λ r. ⌜ r ≡ flatCounts reply ⌝ }
-{
-    match reply {
-        Counts::Read(size) => FlatCounts {
-            number: 0,
-            subtasks: size.subtasks as u32,
-            arrows: size.arrows as u32,
-        },
-        Counts::Refused(refusal) => FlatCounts {
-            number: refusal.number as u32,
-            subtasks: 0,
-            arrows: 0,
-        },
-    }
-}
-
-fn flatten_written(reply: Written) -> FlatWritten
-    requires { ⌜ IsShort reply ⌝ }
-    ensures { λ r. ⌜ r ≡ flatWritten reply ⌝ }
-{
-    match reply {
-        Written::Bytes(size) => FlatWritten {
-            number: 0,
-            bytes: size as u32,
-        },
-        Written::Refused(refusal) => FlatWritten {
-            number: refusal.number as u32,
-            bytes: 0,
-        },
-    }
 }
 
 // C.

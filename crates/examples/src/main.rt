@@ -27,9 +27,14 @@ fn print_number(number: u32) {
     io::print_decimal(STDOUT_FILENO, number as u64);
 }
 
+// The number, the place and the second number.
 fn print_refusal(refusal: Refusal) {
     print(b" refused,");
     print_number(refusal.number as u32);
+    print(b",");
+    print_number(refusal.place);
+    print(b",");
+    print_number(refusal.second);
 }
 
 fn print_amount(reply: Amount) {

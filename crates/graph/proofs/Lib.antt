@@ -10,6 +10,8 @@ pub mod WalkPasses
 pub mod WalkEnters
 pub mod WalkPlaces
 pub mod NoCycle
+-- the lowest on a cycle
+pub mod CycleSearch
 -- C and P
 pub mod PathWeights
 -- the answers

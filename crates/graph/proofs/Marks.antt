@@ -4,7 +4,7 @@ use mathlib.Core.Logic.{_≢_}
 use mathlib.Core.List.{List}
 use Prim.Native.Nat.{ℕ, zero, suc, _+_, _≤_, _<_}
 use native.Mathlib.Omega.{arith}
-use lib.ListN.{length, getD, set}
+use lib.ListN.{length, getD, set, replicate, getD-replicate}
 use Rattle.terms.specs.Graphs.{Among}
 use Rattle.theory.proofs.Stores.{read-set}
 use Rattle.theory.proofs.Tallies.{tally, tally-set}
@@ -38,6 +38,10 @@ pub unplaced-not : (mark : ℕ) → mark ≡ 0 → unplaced mark ≡ 0
 unfolding unplaced
 unplaced-not mark e = ap unplaced e
 
+-- at first every subtask is new
+pub first-mark : {n v : ℕ} → n ≤ 256 → Among 1 n v → _≡_ {A = ℕ} (getD (replicate 257 1) v 0) 1
+first-mark {v = v} few t = getD-replicate {A = ℕ} 257 v 1 0 (omega (arith, t .high, few))
+
 -- subtask p has its mark changed
 module _ (marks : List ℕ) {p : ℕ} (e : ℕ) (l : p < length marks) where
   -- a subtask with another mark keeps it
@@ -55,7 +59,7 @@ module _ (marks : List ℕ) {p : ℕ} (e : ℕ) (l : p < length marks) where
         omega (arith, tally-set unplaced marks p e n t l, was, unplaced-is e (λ q. omega (arith, q, h)))
 
     -- p was on the way, and is placed now
-    pub fewer-unplaced : 2 ≤ getD marks p 0 → e ≡ 0 → tally unplaced (set marks p e) n + 1 ≡ tally unplaced marks n
+    pub fewer-unplaced : 1 ≤ getD marks p 0 → e ≡ 0 → tally unplaced (set marks p e) n + 1 ≡ tally unplaced marks n
     fewer-unplaced h z = omega (arith, tally-set unplaced marks p e n t l, unplaced-is (getD marks p 0) (λ q. omega (arith, q, h)), unplaced-not e z)
 
     pub same-new : 2 ≤ getD marks p 0 → e ≡ 0 → tally new (set marks p e) n ≡ tally new marks n

@@ -4,13 +4,13 @@ use mathlib.Core.Logic.{_≢_}
 use mathlib.Core.List.{List}
 use Prim.Native.Nat.{ℕ, _+_, _-_, _*_, _≤_, _<_}
 use native.Mathlib.Omega.{arith}
-use lib.ListN.{length, getD, set, replicate, length-replicate, getD-replicate}
+use lib.ListN.{length, getD, set, replicate, length-replicate}
 use Rattle.terms.specs.Graphs.{Among, fromOf, toOf}
 use Rattle.theory.proofs.Tallies.{tally, tally-none, tally-all}
 use Rattle.graph.specs.Chains.{Tidy, Chains}
-use Rattle.graph.specs.Ordered.{StandsBelow, Ordered}
+use Rattle.graph.specs.Ordered.{StandsBelow, Ordered, Orders}
 use Rattle.graph.proofs.Chained.{Along}
-use Rattle.graph.proofs.Marks.{new, unplaced, new-is, unplaced-is, unplaced-not, kept}
+use Rattle.graph.proofs.Marks.{new, unplaced, new-is, unplaced-is, unplaced-not, first-mark, kept}
 
 module _ (n : ℕ) (arrows : List (List ℕ)) where
   -- the arrows into v from place c on come from subtasks that are placed
@@ -48,10 +48,11 @@ module _ (n : ℕ) (arrows : List (List ℕ)) where
     pub first : (k : ℕ) → k < length arrows → (j : ℕ) → j < m → getD row j 0 ≡ toOf arrows k → StandsBelow row j (fromOf arrows k)
     pub count : m + tally unplaced marks n ≡ n
 
-  -- the subtasks up to root are not new
+  -- the subtasks up to root are not new, and those below it are placed
   pub record Tried (marks : List ℕ) (root : ℕ) : Type 0 where
     pub within : root ≤ n
     pub old : (v : ℕ) → Among 1 n v → v ≤ root → getD marks v 0 ≢ 1
+    pub below : (v : ℕ) → Among 1 n v → v < root → getD marks v 0 ≡ 0
 
   pub record State (first next row marks stack : List ℕ) (depth m root u c : ℕ) : Type 0 where
     pub tidy : Tidy n arrows
@@ -62,6 +63,7 @@ module _ (n : ℕ) (arrows : List (List ℕ)) where
     pub at : At marks u c depth
     pub rows : Rows row marks m
     pub tried : Tried marks root
+    pub begun : u ≢ 0 → 1 ≤ root
 
   -- what is left to do
   unfoldable pub left : List ℕ → ℕ → ℕ → ℕ
@@ -107,21 +109,21 @@ module _ {n : ℕ} {arrows : List (List ℕ)} where
       first = λ k _ j l _. absurd (omega (arith, l));
       count = omega (arith, tally-all unplaced (replicate 257 1) n (λ v t. unplaced-is _ (λ q. omega (arith, q, mark v t))));
     };
-    tried = record { within = omega arith; old = λ v t l _. omega (arith, t .low, l) };
+    tried = record { within = omega arith; old = λ v t l _. omega (arith, t .low, l); below = λ v t l. absurd (omega (arith, l)) };
+    begun = λ h. absurd (h refl);
   }
     where
       mark : (v : ℕ) → Among 1 n v → _≡_ {A = ℕ} (getD (replicate 257 1) v 0) 1
-      mark v t = getD-replicate {A = ℕ} 257 v 1 0 (omega (arith, t .high, tidy .subtasks))
+      mark v t = first-mark (tidy .subtasks) t
 
   -- ---- every subtask was tried, and there is no way
   pub state-end : {first next row marks stack : List ℕ} {depth m root u c : ℕ} → State n arrows first next row marks stack depth m root u c
-      → u ≡ 0 → root ≡ n → Ordered n arrows row
-  state-end {marks = marks} {m = m} s eu er = record {
-    long = s .rows .long;
-    inside = λ i b. s .rows .inside i (omega (arith, b, all)) .0;
-    each = λ v t. let w = s .rows .there v t (placed v t) in record { place = w .place; below = omega (arith, w .below, all); is = w .is };
-    once = λ i j a b. s .rows .once i j a (omega (arith, b, all));
-    first = λ k l j b. s .rows .first k l j (omega (arith, b, all));
+      → u ≡ 0 → root ≡ n → Orders n arrows row 0
+  state-end {row = row} {marks = marks} {m = m} s eu er = record {
+    within = omega arith;
+    ordered = λ _. order;
+    cycle = λ h. absurd (h refl);
+    below = λ j l. absurd (omega (arith, l));
   }
     where
       placed : (v : ℕ) → Among 1 n v → getD marks v 0 ≡ 0
@@ -129,3 +131,12 @@ module _ {n : ℕ} {arrows : List (List ℕ)} where
 
       all : m ≡ n
       all = omega (arith, s .rows .count, tally-none unplaced marks n (λ v t. unplaced-not _ (placed v t)))
+
+      order : Ordered n arrows row
+      order = record {
+        long = s .rows .long;
+        inside = λ i b. s .rows .inside i (omega (arith, b, all)) .0;
+        each = λ v t. let w = s .rows .there v t (placed v t) in record { place = w .place; below = omega (arith, w .below, all); is = w .is };
+        once = λ i j a b. s .rows .once i j a (omega (arith, b, all));
+        first = λ k l j b. s .rows .first k l j (omega (arith, b, all));
+      }

@@ -25,11 +25,12 @@ module _ {n : ℕ} {arrows : List (List ℕ)} {first next row marks stack : List
     inside = omega (arith, t .high, s .tidy .subtasks, s .long-marks)
 
     come-to : (d root′ : ℕ) (stack′ : List ℕ) → length stack′ ≡ 256 → ((i : ℕ) → i < d → Climbs n arrows (set marks p (d + 2)) i (getD stack′ i 0))
-        → ((v : ℕ) → Among 1 n v → getD marks v 0 < d + 2) → d + tally new marks n ≤ n → root ≤ root′ → Tried n arrows (set marks p (d + 2)) root′
+        → ((v : ℕ) → Among 1 n v → getD marks v 0 < d + 2) → d + tally new marks n ≤ n → root ≤ root′ → 1 ≤ root′
+        → Tried n arrows (set marks p (d + 2)) root′
         → State n arrows first next row (set marks p (d + 2)) stack′ d m root′ p (getD first p 0)
         × (left n arrows (set marks p (d + 2)) root′ (getD first p 0) < left n arrows marks root c)
     unfolding left
-    come-to d root′ stack′ long climbs low room onward tried = (
+    come-to d root′ stack′ long climbs low room onward begun tried = (
       record {
         tidy = s .tidy;
         chains = s .chains;
@@ -61,6 +62,7 @@ module _ {n : ℕ} {arrows : List (List ℕ)} {first next row marks stack : List
           count = omega (arith, s .rows .count, same);
         };
         tried = tried;
+        begun = λ _. begun;
       },
       omega (arith, fewer, same, last .within, s .tidy .few, onward),
     )
@@ -82,6 +84,10 @@ module _ {n : ℕ} {arrows : List (List ℕ)} {first next row marks stack : List
     root-is : Among 1 n (root + 1)
     root-is = record { low = omega arith; high = omega (arith, s .tried .within, more) }
 
+    -- those before it are placed
+    settled : (v : ℕ) → Among 1 n v → v < root + 1 → getD marks v 0 ≡ 0
+    settled v t l = omega (arith, s .at .none eu .2 v t, s .tried .old v t (omega (arith, l)))
+
     pub root-small : root + 1 < 257
     root-small = omega (arith, root-is .high, s .tidy .subtasks)
 
@@ -101,7 +107,9 @@ module _ {n : ℕ} {arrows : List (List ℕ)} {first next row marks stack : List
         tried = record {
           within = root-is .high;
           old = λ v t l. ⊎-elim (λ e. rw e old) (λ b. s .tried .old v t (omega (arith, b))) (eq-or-lt-of-le {n = v} {m = root + 1} l);
+          below = settled;
         };
+        begun = λ _. omega arith;
       },
       omega (arith, root-is .high),
     )
@@ -112,11 +120,12 @@ module _ {n : ℕ} {arrows : List (List ℕ)} {first next row marks stack : List
         × (left n arrows (set marks (root + 1) 2) (root + 1) (getD first (root + 1) 0) < left n arrows marks root c)
     state-enter isNew = rw (s .at .none eu .0)
         (come-to root-is isNew 0 (root + 1) stack (s .long-stack) (λ i l. absurd (omega (arith, l)))
-        (λ v t. omega (arith, s .at .none eu .2 v t)) (omega (arith, s .at .none eu .1)) (omega arith)
+        (λ v t. omega (arith, s .at .none eu .2 v t)) (omega (arith, s .at .none eu .1)) (omega arith) (omega arith)
         (record {
           within = root-is .high;
           old = λ v t l. read-set (λ x. x ≢ 1) marks (root + 1) 2 v (inside root-is isNew)
               (λ _ q. omega (arith, q)) (λ q. s .tried .old v t (omega (arith, l, q)));
+          below = λ v t l. kept marks 2 (inside root-is isNew) v (λ q. omega (arith, q, isNew)) (settled v t l);
         }))
 
   -- ---- the arrow at the cursor comes from p, which is new: the way goes on to p
@@ -133,10 +142,11 @@ module _ {n : ℕ} {arrows : List (List ℕ)} {first next row marks stack : List
     pub state-on : State n arrows first next row (set marks p (depth + 1 + 2)) (set stack depth c) (depth + 1) m root p (getD first p 0)
         × (left n arrows (set marks p (depth + 1 + 2)) root (getD first p 0) < left n arrows marks root c)
     state-on = come-to (at .from-is) isNew (depth + 1) root (set stack depth c) (length-set stack depth c ∙ s .long-stack) climbs
-        (λ v t. omega (arith, s .way .deepest v t)) (omega (arith, s .at .room on-way)) (omega arith)
+        (λ v t. omega (arith, s .way .deepest v t)) (omega (arith, s .at .room on-way)) (omega arith) (s .begun on-way)
         (record {
           within = s .tried .within;
           old = λ v t b. read-set (λ x. x ≢ 1) marks p (depth + 1 + 2) v lp (λ _ q. omega (arith, q)) (λ _. s .tried .old v t b);
+          below = λ v t b. still v (λ q. omega (arith, q)) (s .tried .below v t b);
         })
       where
         lp : p < length marks

@@ -8,6 +8,8 @@ use native.Mathlib.Omega.{arith}
 use lib.ListN.{length, getD}
 use Rattle.terms.specs.Graphs.{Among, fromOf, toOf, LeadsTo, step, more}
 use Rattle.graph.proofs.Chained.{Looks, along-next, next-less, passed-now}
+use Rattle.graph.specs.Ordered.{Orders}
+use Rattle.graph.proofs.NoCycle.{leads-to-subtask, on-no-cycle}
 use Rattle.graph.proofs.Walk.{State, left}
 
 module _ {n : ℕ} {arrows : List (List ℕ)} {first next row marks stack : List ℕ} {depth m root u c p : ℕ}
@@ -33,13 +35,14 @@ module _ {n : ℕ} {arrows : List (List ℕ)} {first next row marks stack : List
       };
       rows = s .rows;
       tried = s .tried;
+      begun = s .begun;
     },
     omega (arith, next-less (s .chains) at),
   )
 
   -- p is on the way: from p by this arrow to u, and along the way back to p
-  pub state-cycle : getD marks p 0 ≢ 0 → getD marks p 0 ≢ 1 → (j : ℕ) × LeadsTo arrows j j
-  state-cycle a b = (p, down (depth - (getD marks p 0 - 2)) u (end .0) (omega (arith, end .1, s .way .deepest p (at .from-is), a, b)) arrive)
+  around : getD marks p 0 ≢ 0 → getD marks p 0 ≢ 1 → (j : ℕ) × LeadsTo arrows j j
+  around a b = (p, down (depth - (getD marks p 0 - 2)) u (end .0) (omega (arith, end .1, s .way .deepest p (at .from-is), a, b)) arrive)
     where
       end : Among 1 n u × (getD marks u 0 ≡ depth + 2)
       end = s .at .end (λ z. omega (arith, z, at .to-is .low))
@@ -59,3 +62,15 @@ module _ {n : ℕ} {arrows : List (List ℕ)} {first next row marks stack : List
           s .way .alone (fromOf arrows place) v (s .tidy .from-in place inside) t (omega (arith, w .above)) (omega (arith, w .above, e, a, b)) in
           down steps (toOf arrows place) (s .tidy .to-in place inside) (omega (arith, w .below, e, a, b))
           (more l (record { place = place; inside = inside; begins = same; arrives = refl }))
+
+  -- and what is below the root is placed
+  pub state-cycle : getD marks p 0 ≢ 0 → getD marks p 0 ≢ 1 → Orders n arrows row root
+  state-cycle a b = record {
+    within = s .tried .within;
+    ordered = λ z. absurd (omega (arith, z, s .begun on-way));
+    cycle = λ _. around a b;
+    below = λ j l h. let t = leads-to-subtask (s .tidy) h in on-no-cycle m (s .rows .once) (s .rows .first) (s .rows .there j t (s .tried .below j t l)) h;
+  }
+    where
+      on-way : u ≢ 0
+      on-way z = omega (arith, z, at .to-is .low)

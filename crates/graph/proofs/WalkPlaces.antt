@@ -98,7 +98,9 @@ module _ {n : ℕ} {arrows : List (List ℕ)} {first next row marks stack : List
       tried = record {
         within = s .tried .within;
         old = λ v t b. read-set (λ x. x ≢ 1) marks u 0 v inside (λ _ q. omega (arith, q)) (λ _. s .tried .old v t b);
+        below = λ v t b. still v (s .tried .below v t b);
       };
+      begun = λ _. s .begun nu;
     },
     omega (arith, fewer, same, few),
   )

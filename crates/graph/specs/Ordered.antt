@@ -1,8 +1,8 @@
 -- The order "predecessors first": the first n entries of a row.
 use mathlib.Core.Path.{_≡_}
-use mathlib.Core.Bool.{Bool, true, false}
+use mathlib.Core.Logic.{_≢_}
 use mathlib.Core.List.{List}
-use Prim.Native.Nat.{ℕ, _<_}
+use Prim.Native.Nat.{ℕ, _≤_, _<_}
 use lib.ListN.{length, getD}
 use Rattle.terms.specs.Graphs.{Among, fromOf, toOf, LeadsTo}
 
@@ -20,7 +20,9 @@ pub record Ordered (n : ℕ) (arrows : List (List ℕ)) (row : List ℕ) : Type 
   -- an arrow into entry j comes from an entry before it
   pub first : (k : ℕ) → k < length arrows → (j : ℕ) → j < n → getD row j 0 ≡ toOf arrows k → StandsBelow row j (fromOf arrows k)
 
--- the row is an order; or, where the flag says no, the arrows close a cycle
-abbrev pub Orders : ℕ → List (List ℕ) → List ℕ → Bool → Type 0
-Orders n arrows row true = Ordered n arrows row
-Orders n arrows row false = (j : ℕ) × LeadsTo arrows j j
+-- r is 0, and the row is an order; or the arrows close a cycle, and no subtask below r is on one
+pub record Orders (n : ℕ) (arrows : List (List ℕ)) (row : List ℕ) (r : ℕ) : Type 0 where
+  pub within : r ≤ n
+  pub ordered : r ≡ 0 → Ordered n arrows row
+  pub cycle : r ≢ 0 → (j : ℕ) × LeadsTo arrows j j
+  pub below : (j : ℕ) → j < r → ¬ LeadsTo arrows j j

@@ -10,6 +10,10 @@ use Rattle.terms.specs.Graphs.{Among, fromOf, toOf}
 abbrev pub Outside : ℕ → List (List ℕ) → ℕ → Type 0
 Outside n arrows a = ¬ (Among 1 n (fromOf arrows a) × Among 1 n (toOf arrows a))
 
+-- the arrow at a place goes from a subtask to itself
+abbrev pub Loops : List (List ℕ) → ℕ → Type 0
+Loops arrows a = fromOf arrows a ≡ toOf arrows a
+
 -- u and v are two different subtasks of 1..n
 pub record TwoOf (n u v : ℕ) : Type 0 where
   pub from-in : Among 1 n u

@@ -1,12 +1,15 @@
 // Refusals 1 to 8, the order "predecessors first", C and P.
 mod chains;
+mod cycle;
 mod order;
 mod scan;
 mod weigh;
 
 use crate::chains::chain;
+use crate::cycle::lowest_on_cycle;
 use crate::order::order_subtasks;
 use crate::scan::faults;
+use crate::scan::first_loop;
 use crate::scan::first_outside;
 use crate::scan::first_repeat;
 use crate::weigh::longest;
@@ -17,15 +20,29 @@ use limits::check_subtasks;
 use terms::Amount;
 use terms::Check;
 use terms::Measure;
+use terms::Refusal;
 use terms::Weights;
-use terms::refuse;
+use terms::refuse_at;
 ghost use mathlib.Core.Path.{_≡_};
 ghost use mathlib.Core.List.{[], _∷_};
+ghost use Prim.Native.Nat.{_≤_};
 ghost use lib.ListN.{length, replicate};
-ghost use Rattle.terms.specs.Rows.{row, Accepted};
-ghost use Rattle.terms.specs.Refusals.{SomeArrow, NamesOutside, subtaskRows, sizeRows, arrowRows, graphRows, namedRows, onRows};
+ghost use Rattle.terms.specs.Rows.{Accepted};
+ghost use Rattle.terms.specs.Refusals.{firstArrow, NamesOutside, subtaskRows, sizeRows, arrowRows, graphRows, namedRows, onRows};
 ghost use Rattle.terms.specs.Replies.{IsCheck, IsMeasure, IsTotalWork, IsLongestPath};
-ghost use Rattle.graph.specs.Finds.{Finds};
+ghost use Rattle.graph.specs.Finds.{Finds, WrongEnds};
+
+// 4 at the first arrow that names a subtask outside 1..n, else 5 at the first that goes from a subtask to itself.
+fn refuse_ends(n: usize, arrows: &[[u16; 2]]) -> Refusal
+    requires { ⌜ length (now arrows) ≤ 2048 ⌝ }
+    ensures { λ r. ⌜ WrongEnds n (now (arrows .entry)) r ⌝ }
+{
+    let outside = first_outside(n, arrows);
+    if outside != 0 {
+        return refuse_at(4, outside as u32);
+    }
+    refuse_at(5, first_loop(arrows) as u32)
+}
 
 // 4 to 7. Where none holds, the arrows are left as chains and the subtasks in an order, predecessors first.
 fn check_arrows(
@@ -42,19 +59,19 @@ fn check_arrows(
 {
     let n = times.len();
     if faults(n, arrows) != 0 {
-        if first_outside(n, arrows) != 0 {
-            return Check::Refused(refuse(4));
-        }
-        return Check::Refused(refuse(5));
+        return Check::Refused(refuse_ends(n, arrows));
     }
     chain(n, arrows, first, next);
-    if first_repeat(n, arrows, first, next) != 0 {
-        return Check::Refused(refuse(6));
+    let repeat = first_repeat(n, arrows, first, next);
+    if repeat != 0 {
+        return Check::Refused(refuse_at(6, repeat as u32));
     }
-    if order_subtasks(n, arrows, first, next, order) {
+    let from = order_subtasks(n, arrows, first, next, order);
+    if from.0 == 0 {
         return Check::Sound;
     }
-    Check::Refused(refuse(7))
+    let lowest = lowest_on_cycle(n, arrows, first, next, from);
+    Check::Refused(refuse_at(7, lowest.0 as u32))
 }
 
 // 1 to 7. Where none holds, the arrows are left as chains and the subtasks in an order, predecessors first.
@@ -101,16 +118,17 @@ pub fn check_on(times: &[u16], arrows: &[[u16; 2]], m: u32) -> Check
 // 4 alone.
 fn check_outside(times: &[u16], arrows: &[[u16; 2]]) -> Check
     requires { ⌜ Accepted (subtaskRows (now times)) × Accepted (sizeRows (now arrows)) ⌝ }
-    ensures { λ r. ⌜ IsCheck (row 4 (SomeArrow (now (arrows .entry)) (NamesOutside (now (times .entry)) (now (arrows .entry)))) ∷ []) r ⌝ }
+    ensures { λ r. ⌜ IsCheck (firstArrow 4 (now (arrows .entry)) (NamesOutside (now (times .entry)) (now (arrows .entry))) ∷ []) r ⌝ }
 {
     let n = times.len();
     if faults(n, arrows) == 0 {
         return Check::Sound;
     }
-    if first_outside(n, arrows) == 0 {
+    let outside = first_outside(n, arrows);
+    if outside == 0 {
         return Check::Sound;
     }
-    Check::Refused(refuse(4))
+    Check::Refused(refuse_at(4, outside as u32))
 }
 
 // Whether the arrows name subtasks, whatever they join: 1 to 4.

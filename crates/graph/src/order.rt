@@ -11,20 +11,21 @@ ghost use Rattle.terms.specs.Graphs.{toOf};
 ghost use Rattle.graph.specs.Chains.{Chains, Tidy};
 ghost use Rattle.graph.specs.Ordered.{Orders};
 
-// Whether the subtasks can stand in an order, predecessors first, which is left in `order`; else the arrows close a cycle. It goes back
-// along the arrows from each subtask in turn. At u, c is the position of the arrow that is looked at; the arrows on the way to u stand on
-// the stack. A mark is 1 where the subtask was not come to, its depth on the way and 2 where it is on the way, and 0 once it is placed.
+// 0 where the subtasks can stand in an order, predecessors first, which is left in `order`; else the arrows close a cycle, and the answer
+// is a subtask below which none is on one. It goes back along the arrows from each subtask in turn. At u, c is the position of the arrow that
+// is looked at; the arrows on the way to u stand on the stack. A mark is 1 where the subtask was not come to, its depth on the way and 2
+// where it is on the way, and 0 once it is placed.
 pub fn order_subtasks(
     n: usize,
     arrows: &[[u16; 2]],
     first: &[u32; 257],
     next: &[u16; 2048],
     order: &mut [u16; 256],
-) -> bool
+) -> Subtask
     requires { ⌜ Tidy n (now arrows) ⌝ }
     requires { ⌜ Chains (toOf (now arrows)) (now first) (now next) (length (now arrows)) ⌝ }
     requires { ⌜ length (now order) ≡ 256 ⌝ }
-    ensures { λ r. ⌜ Orders n (now (arrows .entry)) (now (order .exit)) r ⌝ }
+    ensures { λ r. ⌜ Orders n (now (arrows .entry)) (now (order .exit)) (r .0) ⌝ }
 {
     let mut mark = [1u16; 257];
     let mut stack = [0u16; 256];
@@ -47,7 +48,7 @@ pub fn order_subtasks(
                 u = p;
                 c = chain_begin(first, from);
             } else {
-                return false;
+                return Subtask(root);
             }
         } else if u != 0 {
             mark[u] = 0;
@@ -63,7 +64,7 @@ pub fn order_subtasks(
                 c = chain_next(next, a);
             }
         } else if root == n {
-            return true;
+            return Subtask(0);
         } else {
             root += 1;
             if mark[root] == 1 {

@@ -12,7 +12,7 @@ ghost use lib.ListN.{length};
 ghost use Rattle.terms.specs.Graphs.{toOf};
 ghost use Rattle.terms.specs.Refusals.{Repeats};
 ghost use Rattle.theory.specs.First.{First};
-ghost use Rattle.graph.specs.Scans.{Outside, FaultOf, Faults, Earlier};
+ghost use Rattle.graph.specs.Scans.{Outside, Loops, FaultOf, Faults, Earlier};
 ghost use Rattle.graph.specs.Chains.{Chains, Tidy};
 
 // 4: the first arrow that names a subtask outside 1..n.
@@ -79,6 +79,22 @@ pub fn faults(n: usize, arrows: &[[u16; 2]]) -> u16
         i += 1;
     }
     count
+}
+
+// 5: the first arrow that goes from a subtask to itself.
+pub fn first_loop(arrows: &[[u16; 2]]) -> usize
+    ensures { λ r. ⌜ First (length (now (arrows .entry))) (Loops (now (arrows .entry))) r ⌝ }
+{
+    let mut i: usize = 0;
+    while i < arrows.len() {
+        let from = from_at(arrows, i);
+        let to = to_at(arrows, i);
+        i += 1;
+        if from.0 == to.0 {
+            return i;
+        }
+    }
+    0
 }
 
 // The earlier of two positions, of which 0 is none.

@@ -7,10 +7,14 @@ use terms::MOST_PROCESSORS;
 use terms::MOST_SUBTASKS;
 use terms::Subtask;
 use terms::refuse;
+use terms::refuse_at;
+ghost use mathlib.Core.Path.{_≡_};
 ghost use Prim.Native.Nat.{_≤_};
 ghost use lib.ListN.{length};
+ghost use Rattle.terms.specs.Graphs.{timeOf};
 ghost use Rattle.terms.specs.Refusals.{subtaskRows, sizeRows, processorRows, deadlineRows};
 ghost use Rattle.terms.specs.Replies.{IsCheck};
+ghost use Rattle.theory.specs.First.{FirstSubtask};
 ghost use Rattle.limits.specs.Times.{NoughtOf, Noughts};
 
 // 1 where a time is 0, else 0.
@@ -37,6 +41,20 @@ fn without_time(times: &[u16]) -> u16
     count
 }
 
+// 2: the first subtask that takes no time, and 0 for none.
+fn first_without_time(times: &[u16]) -> Subtask
+    ensures { λ r. ⌜ FirstSubtask (length (now (times .entry))) (λ j. timeOf (now (times .entry)) j ≡ 0) (r .0) ⌝ }
+{
+    let mut j: usize = 0;
+    while j < times.len() {
+        j += 1;
+        if time_of(times, Subtask(j)) == 0 {
+            return Subtask(j);
+        }
+    }
+    Subtask(0)
+}
+
 // 1 and 2.
 pub fn check_subtasks(times: &[u16]) -> Check
     ensures { λ r. ⌜ IsCheck (subtaskRows (now (times .entry))) r ⌝ }
@@ -49,7 +67,8 @@ pub fn check_subtasks(times: &[u16]) -> Check
         return Check::Refused(refuse(1));
     }
     if without_time(times) != 0 {
-        return Check::Refused(refuse(2));
+        let first = first_without_time(times);
+        return Check::Refused(refuse_at(2, first.0 as u32));
     }
     Check::Sound
 }

@@ -1,6 +1,7 @@
 pub mod Clashes
 pub mod LatestEnds
 pub mod Counts
-pub mod Tests
+pub mod SubtaskTests
+pub mod ProcessorTests
 pub mod Replied
 pub mod Swept

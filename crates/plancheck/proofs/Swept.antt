@@ -1,7 +1,6 @@
 -- One sweep in the order of the starts shows that no two subtasks clash and that none waits while a processor is free. Assumes nothing.
 use mathlib.Core.Path.{_≡_, refl, sym, ap, _∙_, subst}
 use mathlib.Core.Logic.{_≢_, ⊎-elim, by-cases}
-use mathlib.Core.Bool.{Bool, true}
 use mathlib.Core.List.{List}
 use Prim.Native.Nat.{ℕ, zero, suc, _+_, _-_, _%_, _≤_, _<_}
 use native.Mathlib.Omega.{arith}
@@ -15,7 +14,6 @@ use Rattle.forms.specs.Forms.{entries, itemOf, finishOf}
 use Rattle.forms.proofs.TwoRows.{entries-processor, entries-start, entries-end}
 use Rattle.theory.proofs.Stores.{read-set}
 use Rattle.plancheck.specs.Known.{Timed}
-use Rattle.theory.specs.Flags.{Shows}
 use Rattle.plancheck.specs.Scans.{Clash}
 use Rattle.plancheck.specs.Sweeps.{Sweepable, SlackAt, ApartAndBusy, Low}
 

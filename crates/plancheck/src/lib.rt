@@ -21,6 +21,8 @@ use terms::Entry;
 use terms::PlanEnd;
 use terms::Subtask;
 use terms::refuse;
+use terms::refuse_at;
+use terms::refuse_pair;
 ghost use lib.ListN.{length, take};
 ghost use Rattle.terms.specs.Graphs.{Among};
 ghost use Rattle.terms.specs.Refusals.{checkRows};
@@ -43,28 +45,30 @@ fn check_placing(times: &[u16], arrows: &[[u16; 2]], m: u32, procs: &[u8], start
 {
     let misplaced = first_misplaced(procs, m);
     if misplaced.0 != 0 {
-        return Check::Refused(refuse(13));
+        return Check::Refused(refuse_at(13, misplaced.0 as u32));
     }
     let late = first_late(starts);
     if late.0 != 0 {
-        return Check::Refused(refuse(14));
+        return Check::Refused(refuse_at(14, late.0 as u32));
     }
     let mut ready = [0u32; 257];
     latest_ends(times, arrows, starts, &mut ready);
     let early = first_early(starts, &ready);
     if early.0 != 0 {
-        return Check::Refused(refuse(15));
+        return Check::Refused(refuse_at(15, early.0 as u32));
     }
     if passes_sweep(times, procs, starts, &ready, m) {
         return Check::Sound;
     }
     let pair = first_sharing(times, procs, starts);
     let lower = pair.lower;
+    let higher = pair.higher;
     if lower.0 != 0 {
-        return Check::Refused(refuse(16));
+        return Check::Refused(refuse_pair(16, lower.0 as u32, higher.0 as u32));
     }
-    if earliest_idle(times, starts, &ready, m) < NEVER {
-        return Check::Refused(refuse(17));
+    let instant = earliest_idle(times, starts, &ready, m);
+    if instant < NEVER {
+        return Check::Refused(refuse_at(17, instant));
     }
     Check::Sound
 }

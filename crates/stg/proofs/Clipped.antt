@@ -3,20 +3,21 @@ use mathlib.Core.Path.{_≡_, refl, sym}
 use mathlib.Core.Logic.{_⊎_, inl, inr, ⊎-elim}
 use mathlib.Core.List.{List, [], _∷_, _++_, map}
 use mathlib.Core.Bool.{Bool, true, false}
-use Prim.Native.Nat.{ℕ, zero, suc, _≤_, _<_}
+use Prim.Native.Nat.{ℕ, zero, suc, _-_, _≤_, _<_}
 use native.Mathlib.Omega.{arith}
 use borrow.Author.Tests.{le-leb, lt-leb, leb-true, leb-false}
 use lib.Dec.{leb}
 use lib.ListN.{length, getD, take, length-map}
 use lib.Seq.{length-take-le}
-use Rattle.terms.specs.Rows.{Accepted, RefusedBy, refusalOf}
+use Rattle.terms.specs.Rows.{Smallest, IsAt, Accepted, RefusedBy, refusalOf}
 use Rattle.terms.specs.Graphs.{Among, IsSubtask, fromOf, toOf}
-use Rattle.terms.specs.Refusals.{SomeArrow, NamesOutside, countRows, timeRows, subtaskRows, sizeRows, arrowRows, timeAndArrowRows, graphRows}
+use Rattle.terms.specs.Refusals.{SomeArrow, NamesOutside, ArrowAt, countRows, timeRows, subtaskRows, sizeRows, arrowRows, timeAndArrowRows, graphRows}
 use Rattle.terms.specs.Replies.{IsCheck}
 use Rattle.terms.specs.declared.Check.{Check}
 use Rattle.terms.specs.declared.Check.the-variants as check
 use Rattle.terms.specs.declared.Refusal.{Refusal}
 use Rattle.theory.proofs.Answers.{refused-first, refused-rest, refused-tail, accepted-both, accepted-tail, begin, past-all, stop-with, holdsOf, none-holds}
+use Rattle.theory.proofs.Stops.{smallest-as}
 use Rattle.theory.proofs.Accepted.{read-refused, read-accepted}
 use Rattle.stg.specs.LinesRead.{clipped, hold}
 use Rattle.stg.specs.RowsRead.{AllPairs, ChecksRead}
@@ -55,23 +56,39 @@ same (b ∷ bs) p f =
     let k : map hold bs ≡ bs = same bs (p .1) (λ i l. f (suc i) (omega arith)) in
     cc
 
--- a subtask's number is held as it is
+-- a number is held as it is where it is a subtask's, or what is held is one
 in-clip : (us : List ℕ) → length us ≤ 256 → (v : ℕ) → IsSubtask us v → IsSubtask us (clipped v)
 in-clip us few v s = rw (clip-low v (omega (arith, s .high))) s
+
+out-clip : (us : List ℕ) → length us ≤ 256 → (v : ℕ) → IsSubtask us (clipped v) → IsSubtask us v
+out-clip us few v s = ⊎-elim (λ (l : v ≤ 65535). rw (clip-low v l) at s) (λ (l : 65535 < v). absurd (omega (arith, s .high, clip-high v l))) (low-or-high v)
 
 -- ---- the rows 2 to 7
 
 module _ (us : List ℕ) (few : length us ≤ 256) (bs : List (List ℕ)) where
-  held-out : SomeArrow (map hold bs) (NamesOutside us (map hold bs)) → SomeArrow bs (NamesOutside us bs)
-  held-out s =
-      let l : s .place < length bs = omega (arith, s .inside, length-map bs hold) in
-      record {
-        place = s .place;
-        inside = l;
-        isSo = λ n. s .isSo (rw (from-held bs (s .place) l) (in-clip us few (fromOf bs (s .place)) (n .0)), rw (to-held bs (s .place) l) (n .1));
-      }
+  abbrev Held : List (List ℕ)
+  Held = map hold bs
 
-  inside : (SomeArrow (map hold bs) (NamesOutside us (map hold bs)) → ⊥) → (i : ℕ) → i < length bs → fromOf bs i ≤ 65535
+  -- an arrow names a subtask outside exactly where what is held of it does
+  held-out : (a : ℕ) → a < length bs → NamesOutside us Held a → NamesOutside us bs a
+  held-out a l out n = out (rw (from-held bs a l) (in-clip us few (fromOf bs a) (n .0)), rw (to-held bs a l) (n .1))
+
+  out-held : (a : ℕ) → a < length bs → NamesOutside us bs a → NamesOutside us Held a
+  out-held a l out n = out (out-clip us few (fromOf bs a) (rw (from-held bs a l) at (n .0)), rw (to-held bs a l) at (n .1))
+
+  some-out : SomeArrow Held (NamesOutside us Held) → SomeArrow bs (NamesOutside us bs)
+  some-out s =
+      let l : s .place < length bs = omega (arith, s .inside, length-map bs hold) in
+      record { place = s .place; inside = l; isSo = held-out (s .place) l (s .isSo) }
+
+  -- and the first that does is the same
+  first-out : {x : ℕ} → Smallest (ArrowAt Held (NamesOutside us Held)) x → Smallest (ArrowAt bs (NamesOutside us bs)) x
+  first-out = smallest-as
+      (λ y a. let p = rw (length-map bs hold) at (a .position) in
+      record { position = p; isSo = held-out (y - 1) (omega (arith, p .low, p .high)) (a .isSo) })
+      (λ y a. record { position = rw (length-map bs hold) (a .position); isSo = out-held (y - 1) (omega (arith, a .position .low, a .position .high)) (a .isSo) })
+
+  inside : (SomeArrow Held (NamesOutside us Held) → ⊥) → (i : ℕ) → i < length bs → fromOf bs i ≤ 65535
   inside n i l =
       ⊎-elim (λ (k : fromOf bs i ≤ 65535). k)
       (λ (k : 65535 < fromOf bs i). absurd (n (record {
@@ -82,28 +99,28 @@ module _ (us : List ℕ) (few : length us ≤ 256) (bs : List (List ℕ)) where
       (low-or-high (fromOf bs i))
 
   module _ (p : AllPairs bs) where
-    held-same : (SomeArrow (map hold bs) (NamesOutside us (map hold bs)) → ⊥) → map hold bs ≡ bs
+    held-same : (SomeArrow Held (NamesOutside us Held) → ⊥) → Held ≡ bs
     held-same n = same bs p (inside n)
 
     -- an accepted graph is held as it is
-    pub unclipped : (SomeArrow bs (NamesOutside us bs) → ⊥) → map hold bs ≡ bs
-    unclipped n = held-same (λ s. n (held-out s))
+    pub unclipped : (SomeArrow bs (NamesOutside us bs) → ⊥) → Held ≡ bs
+    unclipped n = held-same (λ s. n (some-out s))
 
-    same-size : sizeRows (map hold bs) ≡ sizeRows bs
+    same-size : sizeRows Held ≡ sizeRows bs
     unfolding sizeRows
     same-size = rw (length-map bs hold) refl
 
     -- 4 to 7: where 4 does not hold, the arrows are held as they are
-    arrows-refused : (r : Refusal) → RefusedBy (arrowRows us (map hold bs)) r → RefusedBy (arrowRows us bs) r
-    unfolding arrowRows RefusedBy
-    arrows-refused r (inl g) = inl (record { holds = held-out (g .holds); number-is = g .number-is })
-    arrows-refused r (inr (n, x)) = let y : RefusedBy (arrowRows us (map hold bs)) r = inr (n, x) in rw (held-same n) at y
+    arrows-refused : (r : Refusal) → RefusedBy (arrowRows us Held) r → RefusedBy (arrowRows us bs) r
+    unfolding arrowRows RefusedBy IsAt
+    arrows-refused r (inl g) = inl (record { holds = some-out (g .holds); number-is = g .number-is; spot-is = (first-out (g .spot-is .0), g .spot-is .1) })
+    arrows-refused r (inr (n, x)) = let y : RefusedBy (arrowRows us Held) r = inr (n, x) in rw (held-same n) at y
 
-    arrows-accepted : Accepted (arrowRows us (map hold bs)) → Accepted (arrowRows us bs)
+    arrows-accepted : Accepted (arrowRows us Held) → Accepted (arrowRows us bs)
     unfolding arrowRows Accepted
-    arrows-accepted (n, x) = let y : Accepted (arrowRows us (map hold bs)) = (n, x) in rw (held-same n) at y
+    arrows-accepted (n, x) = let y : Accepted (arrowRows us Held) = (n, x) in rw (held-same n) at y
 
-    checked-held : (r : Check) → IsCheck (timeAndArrowRows us (map hold bs)) r → IsCheck (timeAndArrowRows us bs) r
+    checked-held : (r : Check) → IsCheck (timeAndArrowRows us Held) r → IsCheck (timeAndArrowRows us bs) r
     unfolding IsCheck timeAndArrowRows
     checked-held check.Sound x =
         accepted-tail (timeRows us) _ (sizeRows bs ++ arrowRows us bs) (λ y. accepted-tail (sizeRows bs) _ _ arrows-accepted (rw same-size at y)) x

@@ -1,5 +1,5 @@
 -- The conditions of docs/PLANNER.md over given numbers can be decided, by decisions that compute. Assumes nothing.
-use mathlib.Core.Path.{_≡_, refl}
+use mathlib.Core.Path.{_≡_, refl, sym}
 use mathlib.Core.Logic.{_≢_, _⊎_, inl, inr, by-cases, Dec·and, Dec·not}
 use mathlib.Core.List.{List}
 use mathlib.Core.Bool.{Bool, true, false}
@@ -11,7 +11,7 @@ use lib.Dec.{T}
 use Rattle.terms.specs.Graphs.{Among, IsSubtask, fromOf, toOf, Precedes}
 use Rattle.terms.specs.Plans.{Placed, processorOf, startOf, endOf, RunsAt, ReadyAt, FreeAt, IdleAt}
 use Rattle.terms.specs.ListRule.{IsOrder}
-use Rattle.terms.specs.Refusals.{SomeSubtask, SomeArrow, Repeats, StartsEarly, Share}
+use Rattle.terms.specs.Refusals.{SomeSubtask, Repeats, StartsEarly, Share}
 use Rattle.terms.specs.declared.Entry.{Entry}
 
 -- ---- decisions in general
@@ -103,13 +103,6 @@ decSomeSubtask times P dec = via
     (s .subtask - 1, omega (arith, s .isSubtask .low, s .isSubtask .high), rw e (s .isSo)))
     (decSome (length times) (λ u. P (suc u)) (λ u. dec (suc u)))
 
-unfoldable pub decSomeArrow : (arrows : List (List ℕ)) (P : ℕ → Type 0) → ((a : ℕ) → Dec (P a)) → Dec (SomeArrow arrows P)
-unfolding via decSome
-decSomeArrow arrows P dec = via
-    (λ x. record { place = x .0; inside = x .1; isSo = x .2 })
-    (λ s. (s .place, s .inside, s .isSo))
-    (decSome (length arrows) P dec)
-
 unfoldable pub decRepeats : (arrows : List (List ℕ)) (b : ℕ) → Dec (Repeats arrows b)
 unfolding via decSome Dec·and ℕ-discrete
 decRepeats arrows b = via
@@ -186,6 +179,9 @@ decStartsEarly times arrows plan j = via
     (λ s. (s .precedes .place, s .precedes .inside, (s .precedes .arrives, rw (s .precedes .begins) (s .early))))
     (decSome (length arrows) (λ a. (toOf arrows a ≡ j) × (startOf plan j < endOf times plan (fromOf arrows a)))
     (λ a. Dec·and (ℕ-discrete (toOf arrows a) j) (decLt (startOf plan j) (endOf times plan (fromOf arrows a)))))
+
+pub share-turned : {times : List ℕ} {plan : List Entry} (i j : ℕ) → Share times plan i j → Share times plan j i
+share-turned i j s = record { two = λ e. s .two (sym e); sameProcessor = sym (s .sameProcessor); instant = s .instant; runs = s .runsToo; runsToo = s .runs }
 
 unfoldable pub decShare : (times : List ℕ) (plan : List Entry) (i j : ℕ) → Dec (Share times plan i j)
 unfolding via decSome Dec·and Dec·not decRuns ℕ-discrete

@@ -2,29 +2,32 @@
 use mathlib.Core.Path.{_≡_, refl, sym}
 use mathlib.Core.Logic.{Dec·and, Dec·not}
 use mathlib.Core.List.{List, [], _∷_}
-use Prim.Native.Nat.{ℕ, _≤_}
+use Prim.Native.Nat.{ℕ}
 use native.Mathlib.Omega.{arith}
 use native.Mathlib.Decide.{decLe, decLt, ℕ-discrete}
 use lib.Dec.{T}
 use lib.Ieee.{binary32, round, toBits}
 use lib.ListN.{length, replicate, take, drop}
-use Rattle.terms.specs.Rows.{Accepted, refusalOf}
+use Rattle.terms.specs.Rows.{Accepted, refusalAt}
 use Rattle.terms.specs.Graphs.{IsSubtask, timeOf, fromOf, toOf, Precedes, LeadsTo}
 use Rattle.terms.specs.Sums.{sum}
 use Rattle.terms.specs.Paths.{totalWork, PathTo, alone, along, weight, IsLongest}
 use Rattle.terms.specs.Verdicts.{bound, IsVerdict, loadOf}
 use Rattle.terms.specs.Plans.{at, notPlaced, processorOf, startOf, endOf}
 use Rattle.terms.specs.ListRule.{put}
-use Rattle.terms.specs.Refusals.{graphRows, verdictRows, checkRows}
+use Rattle.terms.specs.Refusals.{graphRows, lowest}
 use Rattle.terms.specs.Replies.{IsOutcome, IsAnswer, IsListed, IsChecked}
 use Rattle.terms.specs.declared.Entry.{Entry}
+use Rattle.terms.specs.declared.Refusal.{Refusal}
 use Rattle.terms.specs.declared.Verdict.{Verdict}
 use Rattle.terms.specs.declared.Verdict.the-variants.{Fits, Late}
 use Rattle.terms.specs.declared.Outcome.the-variants.{Judged}
 use Rattle.terms.specs.declared.PlanEnd.the-variants.{Ends, Refused}
-use Rattle.terms.proofs.Decide.{isYes, by-yes, via, decWhen, decOrNot, seek, decSome, decAll, decEach, decAmong, decSomeSubtask, decSomeArrow}
+use Rattle.terms.proofs.Decide.{isYes, by-yes, via, decWhen, decOrNot, seek, decSome, decAll, decEach, decAmong, decSomeSubtask}
 use Rattle.terms.proofs.Decide.{decRepeats, decOrder, decRuns, decFree, decServed, decReady, decIdle, decStartsEarly, decShare}
-use Rattle.terms.proofs.Tables.{Accepts, Refuses, accepts, refuses, then, decFinishes, no-cycle, longest-by, graphDecided, onDecided}
+use Rattle.terms.proofs.Decisions.{Decision, never, decPlain, decFirstSubtask, decFirstArrow, decLowest, decPairAt, decLower, decSmallestPair}
+use Rattle.terms.proofs.Decisions.{Accepts, Refuses, accepts, refuses, then}
+use Rattle.terms.proofs.Tables.{decFinishes, no-cycle, longest-by, graphDecided, onDecided}
 use Rattle.terms.proofs.Tables.{verdictDecided, listDecided, decIdleSometime, checkDecided, stepped, after, decEnds, decBegun}
 
 -- ---- graph G
@@ -78,9 +81,9 @@ pub record Examples : Type 0 where
   pub seven : Says (1 ∷ []) [] 16 1 1 1 16 (Fits 0)
   pub eight : HasFigures (3 ∷ 4 ∷ []) ((1 ∷ 2 ∷ []) ∷ []) 2 7 7 14
       × IsChecked (3 ∷ 4 ∷ []) ((1 ∷ 2 ∷ []) ∷ []) 2 (bothOnOne 0 3) (Ends 7)
-      × IsChecked (3 ∷ 4 ∷ []) ((1 ∷ 2 ∷ []) ∷ []) 2 (bothOnOne 0 2) (Refused (refusalOf 15))
-  pub nine : IsChecked (3 ∷ []) [] 1 (at 1 1 ∷ []) (Refused (refusalOf 17))
-  pub ten : IsChecked (5 ∷ 5 ∷ []) [] 2 (bothOnOne 0 5) (Refused (refusalOf 17))
+      × IsChecked (3 ∷ 4 ∷ []) ((1 ∷ 2 ∷ []) ∷ []) 2 (bothOnOne 0 2) (Refused (refusalAt 15 2 0))
+  pub nine : IsChecked (3 ∷ []) [] 1 (at 1 1 ∷ []) (Refused (refusalAt 17 0 0))
+  pub ten : IsChecked (5 ∷ 5 ∷ []) [] 2 (bothOnOne 0 5) (Refused (refusalAt 17 0 0))
       × IsChecked (5 ∷ 5 ∷ []) [] 1 (bothOnOne 0 5) (Ends 10)
   -- example 5's load, 34 / 60, is the float nearest to 0.56666..
   pub load : toBits binary32 (loadOf 34 3 20) ≡ 0x3f111111
@@ -89,11 +92,11 @@ pub record Examples : Type 0 where
 
 module _ (times : List ℕ) (arrows : List (List ℕ)) (finish : List ℕ) (P : ℕ) where
   -- a table of finish times up to P
-  abbrev Finished : Type 0
+  abbrev pub Finished : Type 0
   Finished = T (isYes (decFinishes times arrows finish P))
 
-  abbrev acyclic : Finished → Dec ((j : ℕ) × LeadsTo arrows j j)
-  acyclic f = no (no-cycle times arrows finish P (by-yes (decFinishes times arrows finish P) f))
+  abbrev pub acyclic : Finished → Decision (lowest 7 (λ j. LeadsTo arrows j j))
+  acyclic f = never (no-cycle times arrows finish P (by-yes (decFinishes times arrows finish P) f))
 
   has-figures : (M C S : ℕ) (f : Finished) (j : ℕ) (path : PathTo times arrows j) → weight path ≡ P
       → Accepts (graphDecided times arrows (acyclic f)) → totalWork times ≡ C → bound C P M ≡ S → HasFigures times arrows M C P S
@@ -122,10 +125,10 @@ module _ (times : List ℕ) (arrows : List (List ℕ)) (finish : List ℕ) (P : 
     by-yes (decEnds times plan E) e,
   )
 
-  checked-refused : (M K k : ℕ) (plan : List Entry) (f : Finished) (b : T (isYes (decBegun times plan K)))
-      → Refuses k (checkDecided times arrows M plan K (acyclic f) (by-yes (decBegun times plan K) b)) → IsChecked times arrows M plan (Refused (refusalOf k))
+  pub checked-refused : (M K : ℕ) (r : Refusal) (plan : List Entry) (f : Finished) (b : T (isYes (decBegun times plan K)))
+      → Refuses r (checkDecided times arrows M plan K (acyclic f) (by-yes (decBegun times plan K) b)) → IsChecked times arrows M plan (Refused r)
   unfolding IsChecked
-  checked-refused M K k plan f b r = refuses k (checkDecided times arrows M plan K (acyclic f) (by-yes (decBegun times plan K) b)) r
+  checked-refused M K r plan f b e = refuses r (checkDecided times arrows M plan K (acyclic f) (by-yes (decBegun times plan K) b)) e
 
   -- the rule has made the list plan after k steps
   list-plan-ends : (order : List ℕ) (M k E : ℕ) (f : Finished)
@@ -152,7 +155,7 @@ module _ (times : List ℕ) (arrows : List (List ℕ)) (finish : List ℕ) (P : 
       )
 
 -- along the arrow at a place
-abbrev arrowAt : (arrows : List (List ℕ)) (a : ℕ) → T (isYes (decLt a (length arrows))) → Precedes arrows (fromOf arrows a) (toOf arrows a)
+abbrev pub arrowAt : (arrows : List (List ℕ)) (a : ℕ) → T (isYes (decLt a (length arrows))) → Precedes arrows (fromOf arrows a) (toOf arrows a)
 arrowAt arrows a l = record { place = a; inside = by-yes (decLt a (length arrows)) l; begins = refl; arrives = refl }
 
 abbrev subtaskAt : (times : List ℕ) (j : ℕ) → T (isYes (decAmong 1 (length times) j)) → IsSubtask times j
@@ -165,7 +168,7 @@ abbrev shorterFinishG : List ℕ
 shorterFinishG = 2 ∷ 1 ∷ 1 ∷ 1 ∷ 4 ∷ 4 ∷ 4 ∷ 4 ∷ 10 ∷ []
 
 figuresG : (M S : ℕ) → bound 34 12 M ≡ S → HasFigures timesG arrowsG M 34 12 S
-unfolding Accepts graphDecided decFinishes via seek decSome decAll decEach decAmong decSomeSubtask decSomeArrow decRepeats Dec·and Dec·not decLe decLt ℕ-discrete timeOf fromOf toOf totalWork sum weight
+unfolding Accepts graphDecided decFinishes via seek decSome decAll decEach decAmong decPlain decFirstSubtask decFirstArrow decRepeats Dec·and Dec·not decLe decLt ℕ-discrete timeOf fromOf toOf totalWork sum weight
 figuresG M S e = has-figures timesG arrowsG finishG 12 M 34 S tt 9 (along (alone 1 (subtaskAt timesG 1 tt)) 9 (arrowAt arrowsG 0 tt)) refl tt refl e
 
 load-of-five : toBits binary32 (loadOf 34 3 20) ≡ 0x3f111111
@@ -173,7 +176,7 @@ unfolding loadOf round toBits
 load-of-five = refl
 
 pub examples : Examples
-unfolding Accepts Refuses then graphDecided onDecided verdictDecided listDecided checkDecided decIdleSometime after stepped decEnds decBegun decFinishes via decWhen decOrNot seek decSome decAll decEach decAmong decSomeSubtask decSomeArrow decRepeats decOrder decRuns decFree decServed decReady decIdle decStartsEarly decShare Dec·and Dec·not decLe decLt ℕ-discrete timeOf fromOf toOf processorOf startOf endOf put totalWork sum weight bound IsVerdict
+unfolding Accepts Refuses then graphDecided onDecided verdictDecided listDecided checkDecided decIdleSometime after stepped decEnds decBegun decFinishes via decWhen decOrNot seek decSome decAll decEach decAmong decSomeSubtask decPlain decFirstSubtask decFirstArrow decLowest decPairAt decLower decSmallestPair decRepeats decOrder decRuns decFree decServed decReady decIdle decStartsEarly decShare Dec·and Dec·not decLe decLt ℕ-discrete timeOf fromOf toOf processorOf startOf endOf put totalWork sum weight bound IsVerdict
 examples =
     let two-fives : HasFigures (5 ∷ 5 ∷ []) [] 2 10 5 15 =
     has-figures (5 ∷ 5 ∷ []) [] (5 ∷ 5 ∷ []) 5 2 10 15 tt 1 (alone 1 (subtaskAt (5 ∷ 5 ∷ []) 1 tt)) refl tt refl refl in
@@ -199,11 +202,11 @@ examples =
         has-figures (3 ∷ 4 ∷ []) ((1 ∷ 2 ∷ []) ∷ []) (3 ∷ 7 ∷ []) 7 2 7 14 tt 2
             (along (alone 1 (subtaskAt (3 ∷ 4 ∷ []) 1 tt)) 2 (arrowAt ((1 ∷ 2 ∷ []) ∷ []) 0 tt)) refl tt refl refl,
         checked-ends (3 ∷ 4 ∷ []) ((1 ∷ 2 ∷ []) ∷ []) (3 ∷ 7 ∷ []) 7 2 3 7 (bothOnOne 0 3) tt tt tt tt,
-        checked-refused (3 ∷ 4 ∷ []) ((1 ∷ 2 ∷ []) ∷ []) (3 ∷ 7 ∷ []) 7 2 2 15 (bothOnOne 0 2) tt tt refl,
+        checked-refused (3 ∷ 4 ∷ []) ((1 ∷ 2 ∷ []) ∷ []) (3 ∷ 7 ∷ []) 7 2 2 (refusalAt 15 2 0) (bothOnOne 0 2) tt tt refl,
       );
-      nine = checked-refused (3 ∷ []) [] (3 ∷ []) 3 1 1 17 (at 1 1 ∷ []) tt tt refl;
+      nine = checked-refused (3 ∷ []) [] (3 ∷ []) 3 1 1 (refusalAt 17 0 0) (at 1 1 ∷ []) tt tt refl;
       ten = (
-        checked-refused (5 ∷ 5 ∷ []) [] (5 ∷ 5 ∷ []) 5 2 5 17 (bothOnOne 0 5) tt tt refl,
+        checked-refused (5 ∷ 5 ∷ []) [] (5 ∷ 5 ∷ []) 5 2 5 (refusalAt 17 0 0) (bothOnOne 0 5) tt tt refl,
         checked-ends (5 ∷ 5 ∷ []) [] (5 ∷ 5 ∷ []) 5 1 5 10 (bothOnOne 0 5) tt tt tt tt,
       );
       load = load-of-five;

@@ -1,55 +1,21 @@
 -- A whole table, a longest path and a list plan over given numbers are found by computing. Assumes nothing.
 use mathlib.Core.Path.{_≡_, refl}
 use mathlib.Core.Logic.{_⊎_, inl, inr, Dec·and, Dec·not}
-use mathlib.Core.List.{List, [], _∷_, _++_}
+use mathlib.Core.List.{List}
 use Prim.Native.Nat.{ℕ, zero, suc, _+_, _-_, _≤_, _<_}
 use native.Mathlib.Omega.{arith}
 use native.Mathlib.Decide.{decLe, decLt, ℕ-discrete}
 use lib.ListN.{length, getD, replicate}
-use Rattle.terms.specs.Rows.{Row, Accepted, RefusedBy, refusalOf}
 use Rattle.terms.specs.Graphs.{Among, IsSubtask, timeOf, fromOf, toOf, Precedes, LeadsTo, step, more}
 use Rattle.terms.specs.Paths.{PathTo, alone, along, weight, IsLongest}
 use Rattle.terms.specs.Plans.{notPlaced, Placed, processorOf, startOf, endOf, EndsAt, ReadyAt, FreeAt, IdleAt}
 use Rattle.terms.specs.ListRule.{Goes, put, ByRule, begin, goes, tick}
 use Rattle.terms.specs.Refusals.{countRows, timeRows, subtaskRows, sizeRows, arrowRows, graphRows, processorRows, onRows, deadlineRows}
-use Rattle.terms.specs.Refusals.{orderRows, planRows, verdictRows, listRows, checkRows}
+use Rattle.terms.specs.Refusals.{orderRows, planRows, verdictRows, listRows, checkRows, lowest, earliest}
 use Rattle.terms.specs.declared.Entry.{Entry}
-use Rattle.terms.proofs.Decide.{via, Least, seek, decSome, decAll, decEach, decAmong, decSomeSubtask, decSomeArrow, decRepeats, decOrder}
-use Rattle.terms.proofs.Decide.{decReady, decFree, decIdle, decStartsEarly, decShare}
-
--- ---- the answer of a table each of whose rows is decided
-
-pub data Decided : List Row → Type 1 where
-  none : Decided []
-  and : {row : Row} {rows : List Row} → Dec (row .holds) → Decided rows → Decided (row ∷ rows)
-
--- no row holds
-unfoldable pub Accepts : {rows : List Row} → Decided rows → Type 0
-Accepts none = Unit {0}
-Accepts (and (yes h) later) = ⊥
-Accepts (and (no h) later) = Accepts later
-
--- the first row that holds has number k
-unfoldable pub Refuses : {rows : List Row} → ℕ → Decided rows → Type 0
-Refuses k none = ⊥
-Refuses k (and {row} (yes h) later) = k ≡ row .number
-Refuses k (and (no h) later) = Refuses k later
-
-pub accepts : {rows : List Row} (decided : Decided rows) → Accepts decided → Accepted rows
-unfolding Accepted Accepts
-accepts none a = tt
-accepts (and (yes h) later) a = absurd a
-accepts (and (no h) later) a = (h, accepts later a)
-
-pub refuses : {rows : List Row} (k : ℕ) (decided : Decided rows) → Refuses k decided → RefusedBy rows (refusalOf k)
-unfolding RefusedBy Refuses
-refuses k none r = absurd r
-refuses k (and (yes h) later) r = inl (record { holds = h; number-is = r })
-refuses k (and (no h) later) r = inr (h, refuses k later r)
-
-unfoldable pub then : {rows later : List Row} → Decided rows → Decided later → Decided (rows ++ later)
-then none later = later
-then (and d rows) later = and d (then rows later)
+use Rattle.terms.proofs.Decide.{via, Least, seek, decAll, decEach, decAmong, decSomeSubtask, decRepeats, decOrder}
+use Rattle.terms.proofs.Decide.{decReady, decFree, decIdle, decStartsEarly, share-turned, decShare}
+use Rattle.terms.proofs.Decisions.{Decision, decPlain, decFirstSubtask, decFirstArrow, decLowest, decSmallestPair, Decided, none, and, then}
 
 -- ---- a table of finish times: no path weighs more, and no cycle is closed
 
@@ -100,54 +66,53 @@ module _ (times : List ℕ) (arrows : List (List ℕ)) (finish : List ℕ) (P : 
 
 -- ---- the tables of docs/PLANNER.md
 
-unfoldable pub graphDecided : (times : List ℕ) (arrows : List (List ℕ)) → Dec ((j : ℕ) × LeadsTo arrows j j) → Decided (graphRows times arrows)
-unfolding graphRows subtaskRows countRows timeRows sizeRows arrowRows decSomeSubtask decSomeArrow decRepeats decAmong Dec·and Dec·not decLt ℕ-discrete
+unfoldable pub graphDecided : (times : List ℕ) (arrows : List (List ℕ)) → Decision (lowest 7 (λ j. LeadsTo arrows j j)) → Decided (graphRows times arrows)
+unfolding graphRows subtaskRows countRows timeRows sizeRows arrowRows decPlain decFirstSubtask decFirstArrow decRepeats decAmong Dec·and Dec·not decLt ℕ-discrete
 graphDecided times arrows cycle =
-    and (Dec·not (decAmong _ _ _))
-    (and (decSomeSubtask _ _ (λ j. ℕ-discrete _ _))
-    (and (decLt _ _)
-    (and (decSomeArrow _ _ (λ a. Dec·not (Dec·and (decAmong _ _ _) (decAmong _ _ _))))
-    (and (decSomeArrow _ _ (λ a. ℕ-discrete _ _))
-    (and (decSomeArrow _ _ (decRepeats _))
+    and (decPlain _ _ (Dec·not (decAmong _ _ _)))
+    (and (decFirstSubtask _ _ _ (λ j. ℕ-discrete _ _))
+    (and (decPlain _ _ (decLt _ _))
+    (and (decFirstArrow _ _ _ (λ a. Dec·not (Dec·and (decAmong _ _ _) (decAmong _ _ _))))
+    (and (decFirstArrow _ _ _ (λ a. ℕ-discrete _ _))
+    (and (decFirstArrow _ _ _ (decRepeats _))
     (and cycle none))))))
 
-unfoldable pub onDecided : (times : List ℕ) (arrows : List (List ℕ)) (M : ℕ) → Dec ((j : ℕ) × LeadsTo arrows j j) → Decided (onRows times arrows M)
-unfolding onRows processorRows graphDecided then decAmong Dec·not
-onDecided times arrows M cycle = then (graphDecided times arrows cycle) (and (Dec·not (decAmong _ _ _)) none)
+unfoldable pub onDecided : (times : List ℕ) (arrows : List (List ℕ)) (M : ℕ) → Decision (lowest 7 (λ j. LeadsTo arrows j j)) → Decided (onRows times arrows M)
+unfolding onRows processorRows graphDecided then decPlain decAmong Dec·not
+onDecided times arrows M cycle = then (graphDecided times arrows cycle) (and (decPlain _ _ (Dec·not (decAmong _ _ _))) none)
 
-unfoldable pub verdictDecided : (times : List ℕ) (arrows : List (List ℕ)) (M D : ℕ) → Dec ((j : ℕ) × LeadsTo arrows j j)
+unfoldable pub verdictDecided : (times : List ℕ) (arrows : List (List ℕ)) (M D : ℕ) → Decision (lowest 7 (λ j. LeadsTo arrows j j))
     → Decided (verdictRows times arrows M D)
-unfolding verdictRows deadlineRows onDecided then decAmong Dec·not
-verdictDecided times arrows M D cycle = then (onDecided times arrows M cycle) (and (Dec·not (decAmong _ _ _)) none)
+unfolding verdictRows deadlineRows onDecided then decPlain decAmong Dec·not
+verdictDecided times arrows M D cycle = then (onDecided times arrows M cycle) (and (decPlain _ _ (Dec·not (decAmong _ _ _))) none)
 
-unfoldable pub listDecided : (times : List ℕ) (arrows : List (List ℕ)) (M : ℕ) (order : List ℕ) (room : ℕ) → Dec ((j : ℕ) × LeadsTo arrows j j)
+unfoldable pub listDecided : (times : List ℕ) (arrows : List (List ℕ)) (M : ℕ) (order : List ℕ) (room : ℕ) → Decision (lowest 7 (λ j. LeadsTo arrows j j))
     → Decided (listRows times arrows M order room)
-unfolding listRows orderRows onDecided then decOrder decLt Dec·not
-listDecided times arrows M order room cycle = then (onDecided times arrows M cycle) (and (Dec·not (decOrder _ _)) (and (decLt _ _) none))
+unfolding listRows orderRows onDecided then decPlain decOrder decLt Dec·not
+listDecided times arrows M order room cycle =
+    then (onDecided times arrows M cycle) (and (decPlain _ _ (Dec·not (decOrder _ _))) (and (decPlain _ _ (decLt _ _)) none))
 
 -- 17 where every subtask is placed and none starts after K: no later instant need be asked
 unfoldable pub decIdleSometime : (times : List ℕ) (arrows : List (List ℕ)) (M : ℕ) (plan : List Entry) (K : ℕ)
-    → ((j : ℕ) → IsSubtask times j → Placed plan j × (startOf plan j ≤ K)) → Dec ((t : ℕ) × IdleAt times arrows M plan t)
-unfolding via decSome decIdle
-decIdleSometime times arrows M plan K begun = via
-    (λ x. (x .0, x .2))
-    (λ x. (x .0, soon (x .0) (x .1) (x .1 .ready .waiting), x .1))
-    (decSome K (λ t. IdleAt times arrows M plan t) (λ t. decIdle times arrows M plan t))
+    → ((j : ℕ) → IsSubtask times j → Placed plan j × (startOf plan j ≤ K)) → Decision (earliest 17 (IdleAt times arrows M plan))
+unfolding decLowest decIdle
+decIdleSometime times arrows M plan K begun =
+    decLowest 17 (IdleAt times arrows M plan) K (λ t d. soon t d (d .ready .waiting)) (decIdle times arrows M plan)
   where
     soon : (t : ℕ) (d : IdleAt times arrows M plan t) → (t < startOf plan (d .subtask)) ⊎ (¬ Placed plan (d .subtask)) → t < K
     soon t d (inl l) = omega (arith, begun (d .subtask) (d .isSubtask) .1)
     soon t d (inr h) = absurd (h (begun (d .subtask) (d .isSubtask) .0))
 
 unfoldable pub checkDecided : (times : List ℕ) (arrows : List (List ℕ)) (M : ℕ) (plan : List Entry) (K : ℕ)
-    → Dec ((j : ℕ) × LeadsTo arrows j j) → ((j : ℕ) → IsSubtask times j → Placed plan j × (startOf plan j ≤ K)) → Decided (checkRows times arrows M plan)
-unfolding checkRows planRows onDecided then decAmong decSomeSubtask decStartsEarly decShare decIdleSometime Dec·not decLt ℕ-discrete
+    → Decision (lowest 7 (λ j. LeadsTo arrows j j)) → ((j : ℕ) → IsSubtask times j → Placed plan j × (startOf plan j ≤ K)) → Decided (checkRows times arrows M plan)
+unfolding checkRows planRows onDecided then decPlain decFirstSubtask decSmallestPair decAmong decStartsEarly decShare decIdleSometime Dec·not decLt ℕ-discrete
 checkDecided times arrows M plan K cycle begun =
     then (onDecided times arrows M cycle)
-    (and (Dec·not (ℕ-discrete _ _))
-    (and (decSomeSubtask _ _ (λ j. Dec·not (decAmong _ _ _)))
-    (and (decSomeSubtask _ _ (λ j. decLt _ _))
-    (and (decSomeSubtask _ _ (decStartsEarly _ _ _))
-    (and (decSomeSubtask _ _ (λ i. decSomeSubtask _ _ (decShare _ _ i)))
+    (and (decPlain _ _ (Dec·not (ℕ-discrete _ _)))
+    (and (decFirstSubtask _ _ _ (λ j. Dec·not (decAmong _ _ _)))
+    (and (decFirstSubtask _ _ _ (λ j. decLt _ _))
+    (and (decFirstSubtask _ _ _ (decStartsEarly _ _ _))
+    (and (decSmallestPair _ _ _ share-turned (λ i j s. s .two) (decShare _ _))
     (and (decIdleSometime times arrows M plan K begun) none))))))
 
 -- ---- the list rule, step by step

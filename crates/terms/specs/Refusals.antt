@@ -1,10 +1,10 @@
--- docs/PLANNER.md, "Numbers of refusal": the table, row by row, and which rows each call asks, in its order.
+-- docs/PLANNER.md, "Numbers of refusal": the table, row by row with its places, and which rows each call asks, in its order.
 use mathlib.Core.Path.{_≡_}
 use mathlib.Core.Logic.{_≢_, _⊎_}
 use mathlib.Core.List.{List, [], _∷_, _++_}
-use Prim.Native.Nat.{ℕ, _≤_, _<_}
+use Prim.Native.Nat.{ℕ, _-_, _≤_, _<_}
 use lib.ListN.{length}
-use Rattle.terms.specs.Rows.{Row, row}
+use Rattle.terms.specs.Rows.{smallest, pair, Row, row}
 use Rattle.terms.specs.Graphs.{Among, IsSubtask, timeOf, fromOf, toOf, Precedes, LeadsTo}
 use Rattle.terms.specs.Plans.{processorOf, startOf, endOf, RunsAt, IdleAt}
 use Rattle.terms.specs.ListRule.{IsOrder}
@@ -48,6 +48,46 @@ pub record Share (times : List ℕ) (plan : List Entry) (i j : ℕ) : Type 0 whe
   pub runs : RunsAt times plan i instant
   pub runsToo : RunsAt times plan j instant
 
+-- ---- the rows that have a place
+
+-- j is a subtask that is so
+pub record SubtaskAt (times : List ℕ) (IsSo : ℕ → Type 0) (j : ℕ) : Type 0 where
+  pub isSubtask : IsSubtask times j
+  pub isSo : IsSo j
+
+-- the arrow at position x is so; positions count from 1
+pub record ArrowAt (arrows : List (List ℕ)) (IsSo : ℕ → Type 0) (x : ℕ) : Type 0 where
+  pub position : Among 1 (length arrows) x
+  pub isSo : IsSo (x - 1)
+
+-- i and j are two subtasks that are so, i the lower
+pub record PairAt (times : List ℕ) (AreSo : ℕ → ℕ → Type 0) (i j : ℕ) : Type 0 where
+  pub lower : IsSubtask times i
+  pub higher : IsSubtask times j
+  pub inOrder : i < j
+  pub areSo : AreSo i j
+
+-- some subtask is so; the first
+abbrev pub firstSubtask : ℕ → List ℕ → (ℕ → Type 0) → Row
+firstSubtask k times IsSo = record { number = k; holds = SomeSubtask times IsSo; spot = smallest (SubtaskAt times IsSo) }
+
+-- some arrow is so; the position of the first
+abbrev pub firstArrow : ℕ → List (List ℕ) → (ℕ → Type 0) → Row
+firstArrow k arrows IsSo = record { number = k; holds = SomeArrow arrows IsSo; spot = smallest (ArrowAt arrows IsSo) }
+
+-- some two subtasks are so; the pair with the smallest lower number, then the smallest higher one
+abbrev pub smallestPair : ℕ → List ℕ → (ℕ → ℕ → Type 0) → Row
+smallestPair k times AreSo =
+    record { number = k; holds = SomeSubtask times (λ i. SomeSubtask times (AreSo i)); spot = pair (PairAt times AreSo) }
+
+-- some number is so; the lowest
+abbrev pub lowest : ℕ → (ℕ → Type 0) → Row
+lowest k IsSo = record { number = k; holds = (x : ℕ) × IsSo x; spot = smallest IsSo }
+
+-- some instant is so; the earliest
+abbrev pub earliest : ℕ → (ℕ → Type 0) → Row
+earliest k IsSo = lowest k IsSo
+
 -- ---- the table, in the pieces that calls ask
 
 -- how many subtasks: 1
@@ -56,7 +96,7 @@ countRows times = row 1 (¬ Among 1 256 (length times)) ∷ []
 
 -- their times: 2
 unfoldable pub timeRows : List ℕ → List Row
-timeRows times = row 2 (SomeSubtask times (λ j. timeOf times j ≡ 0)) ∷ []
+timeRows times = firstSubtask 2 times (λ j. timeOf times j ≡ 0) ∷ []
 
 -- the subtasks: 1 and 2
 unfoldable pub subtaskRows : List ℕ → List Row
@@ -69,10 +109,10 @@ sizeRows arrows = row 3 (2048 < length arrows) ∷ []
 -- the arrows: 4 to 7
 unfoldable pub arrowRows : List ℕ → List (List ℕ) → List Row
 arrowRows times arrows =
-    row 4 (SomeArrow arrows (NamesOutside times arrows))
-    ∷ row 5 (SomeArrow arrows (λ a. fromOf arrows a ≡ toOf arrows a))
-    ∷ row 6 (SomeArrow arrows (Repeats arrows))
-    ∷ row 7 ((j : ℕ) × LeadsTo arrows j j)
+    firstArrow 4 arrows (NamesOutside times arrows)
+    ∷ firstArrow 5 arrows (λ a. fromOf arrows a ≡ toOf arrows a)
+    ∷ firstArrow 6 arrows (Repeats arrows)
+    ∷ lowest 7 (λ j. LeadsTo arrows j j)
     ∷ []
 
 -- 1 to 7, which all but the reader ask first
@@ -81,7 +121,7 @@ graphRows times arrows = subtaskRows times ++ (sizeRows arrows ++ arrowRows time
 
 -- 1 to 4, which are asked where arrows may repeat or close cycles: each arrow names two subtasks
 unfoldable pub namedRows : List ℕ → List (List ℕ) → List Row
-namedRows times arrows = subtaskRows times ++ (sizeRows arrows ++ row 4 (SomeArrow arrows (NamesOutside times arrows)) ∷ [])
+namedRows times arrows = subtaskRows times ++ (sizeRows arrows ++ firstArrow 4 arrows (NamesOutside times arrows) ∷ [])
 
 -- 2 to 7, which the reader asks of the graph that was read
 unfoldable pub timeAndArrowRows : List ℕ → List (List ℕ) → List Row
@@ -107,11 +147,11 @@ orderRows times order room = row 10 (¬ IsOrder times order) ∷ row 11 (room < 
 unfoldable pub planRows : List ℕ → List (List ℕ) → ℕ → List Entry → List Row
 planRows times arrows M plan =
     row 12 (length plan ≢ length times)
-    ∷ row 13 (SomeSubtask times (λ j. ¬ Among 1 M (processorOf plan j)))
-    ∷ row 14 (SomeSubtask times (λ j. 16776960 < startOf plan j))
-    ∷ row 15 (SomeSubtask times (StartsEarly times arrows plan))
-    ∷ row 16 (SomeSubtask times (λ i. SomeSubtask times (Share times plan i)))
-    ∷ row 17 ((t : ℕ) × IdleAt times arrows M plan t)
+    ∷ firstSubtask 13 times (λ j. ¬ Among 1 M (processorOf plan j))
+    ∷ firstSubtask 14 times (λ j. 16776960 < startOf plan j)
+    ∷ firstSubtask 15 times (StartsEarly times arrows plan)
+    ∷ smallestPair 16 times (Share times plan)
+    ∷ earliest 17 (IdleAt times arrows M plan)
     ∷ []
 
 -- ---- what each call asks, in its order

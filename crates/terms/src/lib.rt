@@ -1,6 +1,6 @@
 // The words of the planner: its kinds of number, its records and replies, its limits.
 ghost use mathlib.Core.Path.{_≡_};
-ghost use Rattle.terms.specs.Rows.{refusalOf};
+ghost use Rattle.terms.specs.Rows.{refusalAt, refusalOf};
 
 // At most so many subtasks, arrows and processors.
 pub const MOST_SUBTASKS: usize = 256;
@@ -38,16 +38,36 @@ pub struct Entry {
     pub start: u32,
 }
 
-// Why an input was refused: the number in the table of refusals.
+// Why an input was refused: the number in the table of refusals, the place that goes with it, and where that is of two the second; else 0.
 pub struct Refusal {
     pub number: u8,
+    pub place: u32,
+    pub second: u32,
 }
 
-// The one place where a refusal is made; whoever meets one passes it on.
+// The three makers of refusals; whoever meets one passes it on. At no place:
 pub fn refuse(number: u8) -> Refusal
     ensures { λ r. ⌜ r ≡ refusalOf number ⌝ }
 {
-    Refusal { number }
+    refuse_pair(number, 0, 0)
+}
+
+// At one place.
+pub fn refuse_at(number: u8, place: u32) -> Refusal
+    ensures { λ r. ⌜ r ≡ refusalAt number place 0 ⌝ }
+{
+    refuse_pair(number, place, 0)
+}
+
+// At two.
+pub fn refuse_pair(number: u8, place: u32, second: u32) -> Refusal
+    ensures { λ r. ⌜ r ≡ refusalAt number place second ⌝ }
+{
+    Refusal {
+        number,
+        place,
+        second,
+    }
 }
 
 // Whether an input is accepted.

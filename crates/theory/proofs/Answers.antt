@@ -1,18 +1,34 @@
 -- The rows of the table: there is one answer, rows asked one after the other answer as one, and a row is named by its number, not counted
 -- from the top. Assumes nothing.
-use mathlib.Core.Path.{_≡_, refl, ap, sym, _∙_}
-use mathlib.Core.Logic.{inl, inr}
+use mathlib.Core.Path.{_≡_, refl, ap, ap₂, sym, _∙_}
+use mathlib.Core.Logic.{inl, inr, by-cases}
 use mathlib.Core.Bool.{Bool, true, false}
 use mathlib.Core.List.{List, [], _∷_, _++_}
 use Prim.Native.Nat.{ℕ}
+use native.Mathlib.Omega.{arith}
+use native.Mathlib.Decide.{decLt}
 use lib.Dec.{eqb}
-use Rattle.terms.specs.Rows.{Row, Accepted, Gives, RefusedBy, refusalOf}
+use Rattle.terms.specs.Rows.{Smallest, Spot, nowhere, smallest, pair, IsAt, Row, row as plain, Accepted, Gives, RefusedBy, refusalAt, refusalOf}
 use Rattle.terms.specs.declared.Refusal.{Refusal}
 
 -- ---- one answer
 
+pub one-smallest : {IsSo : ℕ → Type 0} {x y : ℕ} → Smallest IsSo x → Smallest IsSo y → x ≡ y
+one-smallest {IsSo} {x} {y} s t = by-cases (decLt x y) (λ l. absurd (t .least x l (s .isSo)))
+    (λ l. by-cases (decLt y x) (λ m. absurd (s .least y m (t .isSo))) (λ m. omega arith))
+
+-- no second place, and no second number with it
+one-spot : (spot : Spot) (p q p′ q′ : ℕ) → IsAt spot p q → IsAt spot p′ q′ → (p ≡ p′) × (q ≡ q′)
+unfolding IsAt
+one-spot nowhere p q p′ q′ (a, b) (c, d) = (a ∙ sym c, b ∙ sym d)
+one-spot (smallest IsSo) p q p′ q′ (a, b) (c, d) = (one-smallest a c, b ∙ sym d)
+one-spot (pair AreSo) p q p′ q′ (a, b) (c, d) = let e = one-smallest a c in (e, one-smallest b (rw (← e) at d))
+
 one-given : (row : Row) (a b : Refusal) → Gives row a → Gives row b → a ≡ b
-one-given row a b g h = ap (λ (k : ℕ). refusalOf k) (g .number-is ∙ sym (h .number-is))
+one-given row a b g h =
+    let number = g .number-is ∙ sym (h .number-is) in
+    let spot = one-spot (row .spot) (a .place) (a .second) (b .place) (b .second) (g .spot-is) (h .spot-is) in
+    ap (λ (k : ℕ). refusalAt k (a .place) (a .second)) number ∙ ap₂ (λ (p q : ℕ). refusalAt (b .number) p q) (spot .0) (spot .1)
 
 -- no second refusal
 pub one-refusal : (rows : List Row) (a b : Refusal) → RefusedBy rows a → RefusedBy rows b → a ≡ b
@@ -96,13 +112,18 @@ past-all {rest = rest} some p x = record {
   refuses = λ a y. p .refuses a (refused-later some rest a x y);
 }
 
--- the next row holds
-pub stop : {rows rest : List Row} {row : Row} → Passed rows (row ∷ rest) → row .holds → RefusedBy rows (refusalOf (row .number))
+-- the next row gives the refusal
+pub stop-given : {rows rest : List Row} {row : Row} {a : Refusal} → Passed rows (row ∷ rest) → Gives row a → RefusedBy rows a
 unfolding RefusedBy
-stop p h = p .refuses _ (inl (record { holds = h; number-is = refl }))
+stop-given p g = p .refuses _ (inl g)
+
+-- the next row, which has no place, holds
+pub stop : {rows rest : List Row} {k : ℕ} {C : Type 0} → Passed rows (plain k C ∷ rest) → C → RefusedBy rows (refusalOf k)
+unfolding IsAt
+stop p h = stop-given p (record { holds = h; number-is = refl; spot-is = (refl, refl) })
 
 -- the same of a refusal that was made with its number
-pub stop-with : {rows rest : List Row} {row : Row} {a : Refusal} → Passed rows (row ∷ rest) → row .holds → a ≡ refusalOf (row .number) → RefusedBy rows a
+pub stop-with : {rows rest : List Row} {k : ℕ} {C : Type 0} {a : Refusal} → Passed rows (plain k C ∷ rest) → C → a ≡ refusalOf k → RefusedBy rows a
 stop-with p h e = rw e (stop p h)
 
 -- there is none left

@@ -6,7 +6,7 @@ use Prim.Native.Nat.{ℕ, _≤_, _<_}
 use native.Mathlib.Omega.{arith}
 use native.Mathlib.Decide.{decLe}
 use lib.ListN.{length, getD, take, drop, replicate}
-use Rattle.terms.specs.Rows.{Accepted}
+use Rattle.terms.specs.Rows.{Accepted, refusalAt, refusalOf}
 use Rattle.terms.specs.Graphs.{IsSubtask, timeOf}
 use Rattle.terms.specs.Verdicts.{IsVerdict}
 use Rattle.terms.specs.Plans.{at, notPlaced, processorOf, startOf, endOf, Placed, RunsAt}
@@ -28,7 +28,8 @@ use Rattle.terms.specs.declared.Verdict.the-variants.{Fits, Late}
 use Rattle.theory.proofs.Accepted.{read-accepted, busy-plan, accepted-plan, accepted-verdict}
 use Rattle.theory.proofs.Paths.{one-longest}
 use Rattle.theory.proofs.ListRule.{by-rule, still-early, ends-early}
-use Rattle.theory.proofs.Answers.{not-both, accepted-join}
+use Rattle.terms.proofs.PlacedRefusals.{placed-refusals}
+use Rattle.theory.proofs.Answers.{one-refusal, not-both, accepted-join}
 use Rattle.theory.proofs.TwoSubtasks.{none-precedes, both, first, second, pair-sound, pair-longest, pair-total, inTurn, pair-order, one-processor}
 use Rattle.theory.proofs.TwoSubtasks.{pair-figures, pair-listed, short, short-sound, short-accepted, turns, turns-busy}
 use Rattle.terms.specs.declared.Check.the-variants as check
@@ -213,4 +214,13 @@ unfolding IsWritten
 clears-rest k (a, n, h) =
     let rest = rw (n, text-size) at (append-cancel-left (stgText short []) (0 ∷ []) (drop k (replicate 35 7)) h) in
     let z : _≡_ {A = ℕ} 0 7 = ap (λ (l : List ℕ). getD l 0 0) rest in
+    omega arith
+
+-- ---- gives no place: times 1, 0 and 0, which are refused by 2 at subtask 2
+
+pub drops-places : (k : ℕ) → ¬ IsCheck (graphRows (1 ∷ 0 ∷ 0 ∷ []) []) (check.Refused (refusalOf k))
+unfolding IsCheck
+drops-places k h =
+    let same = one-refusal (graphRows (1 ∷ 0 ∷ 0 ∷ []) []) (refusalOf k) (refusalAt 2 2 0) h (placed-refusals .two) in
+    let z : _≡_ {A = ℕ} 0 2 = ap (λ (r : Refusal). r .place) same in
     omega arith

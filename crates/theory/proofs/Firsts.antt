@@ -47,6 +47,9 @@ module _ {n : ℕ} (IsSo : ℕ → Type 0) {r : ℕ} (f : FirstSubtask n IsSo r)
       let e : j - 1 + 1 ≡ j = omega (arith, a .low) in
       f .none z (j - 1) (omega (arith, a .low, a .high)) (rw e h)
 
+  pub first-least : (j : ℕ) → 1 ≤ j → j < r → ¬ IsSo j
+  first-least j a l h = let e : j - 1 + 1 ≡ j = omega (arith, a) in f .least (j - 1) (omega (arith, a, l)) (rw e h)
+
 -- ---- what a flag says
 
 pub said : {P : Type 0} {b : Bool} → b ≡ true → Says P b → P

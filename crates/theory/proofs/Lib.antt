@@ -10,6 +10,7 @@ pub mod Firsts
 pub mod Rounds
 -- the table
 pub mod Answers
+pub mod Stops
 pub mod SoundPlans
 pub mod Accepted
 pub mod ReadSizes
@@ -47,6 +48,7 @@ pub mod TextBack
 pub mod WrittenBack
 -- what a reader wants
 pub mod OneReply
+pub mod Places
 pub mod OneArranged
 pub mod Alterations
 pub mod Dropping

@@ -6,6 +6,7 @@ use std::iter::once;
 use zulagbemi::{Arrow, Graph, MAX_ARROWS, MAX_SUBTASKS};
 
 /// A graph of a family, in each form that a call takes.
+#[derive(Clone)]
 pub struct Sample {
     pub family: &'static str,
     pub times: Vec<u16>,
@@ -19,7 +20,7 @@ pub struct Sample {
 }
 
 impl Sample {
-    fn new(family: &'static str, n: usize, arrows: &[[usize; 2]]) -> Self {
+    pub fn new(family: &'static str, n: usize, arrows: &[[usize; 2]]) -> Self {
         // times that differ, without a random source
         let times: Vec<u16> = (1..=n).map(|j| (j * 7919 % 97 + 1) as u16).collect();
         let pairs: Vec<[u16; 2]> = arrows.iter().take(MAX_ARROWS).map(|a| a.map(|j| j as u16)).collect();
@@ -54,7 +55,7 @@ pub fn largest() -> Sample {
 }
 
 /// From each subtask to those behind it, the nearest first.
-fn dense(n: usize) -> Vec<[usize; 2]> {
+pub fn dense(n: usize) -> Vec<[usize; 2]> {
     (1..n).flat_map(|gap| (1..=n - gap).map(move |j| [j, j + gap])).collect()
 }
 

@@ -10,9 +10,11 @@ mod families;
 mod model;
 mod painted;
 mod plain;
+mod refused;
 mod tables;
 
 use families::{families, Sample};
+use refused::Refused;
 use std::hint::black_box;
 use std::time::Instant;
 use tables::{Row, Rows};
@@ -36,12 +38,16 @@ fn timed<T>(call: &mut impl FnMut() -> T) -> f64 {
 }
 
 /// The two list plans, which must be the same.
-fn plans(s: &Sample, list: impl Fn(&mut [(u8, u32)]) -> Result<u32, u32>) -> (Vec<Entry>, Vec<(u8, u32)>) {
+fn plans(s: &Sample, list: impl Fn(&mut [(u8, u32)]) -> plain::Reply<u32>) -> (Vec<Entry>, Vec<plain::Entry>) {
     let (mut ours, mut theirs) = (vec![Entry::default(); s.order.len()], vec![(0, 0); s.order.len()]);
     let end = s.graph().list_plan(M, &s.order, &mut ours).expect("an accepted graph");
     assert_eq!(list(&mut theirs), Ok(end));
-    assert!(ours.iter().zip(&theirs).all(|(e, p)| (e.processor, e.start) == *p));
+    assert!(entries(&ours) == theirs);
     (ours, theirs)
+}
+
+fn entries(plan: &[Entry]) -> Vec<plain::Entry> {
+    plan.iter().map(|entry| (entry.processor, entry.start)).collect()
 }
 
 /// Two rooms for the text, in which both writers must have written the same.
@@ -89,6 +95,19 @@ fn against_model(s: &Sample) -> [(&'static str, f64); 3] {
     .map(|(call, (proved, model))| (call, model / proved))
 }
 
+/// A refused input against plain Rust, which must refuse it by the same number at the same place.
+fn against_refused(r: &Refused) -> tables::Refused {
+    let (t, a) = (&r.sample.times[..], &r.sample.pairs[..]);
+    let plan = r.plan.as_deref().map(entries);
+    let check = |plan: &Vec<plain::Entry>| plain::check_plan(black_box(t), a, refused::PROCESSORS, plan);
+    let other = || plan.as_ref().map_or_else(|| plain::total_work(black_box(t), a), check);
+    let refusal = r.reply().expect_err("a refused input");
+    assert_eq!(other(), Err((refusal.number(), refusal.place(), refusal.second())));
+    let (proved, plain) = least(300, || black_box(r).reply(), other);
+    let deep = painted::deep(|| r.reply());
+    tables::Refused { what: r.what, call: r.call(), said: refusal.to_string(), proved, plain, deep }
+}
+
 fn main() {
     let rows: Vec<Rows> = [16, 64, 256].into_iter().flat_map(families).map(|s| against_plain(&s)).collect();
     if std::env::args().any(|word| word == "--rows") {
@@ -98,5 +117,6 @@ fn main() {
     tables::by_family(&rows);
     let stencil = families(64).into_iter().find(|s| s.family == "stencil").expect("the family");
     tables::against_model(&against_model(&stencil));
+    tables::refused(&refused::refused().map(|r| against_refused(&r)));
     tables::stack(&painted::depths(&families::largest()));
 }

@@ -111,6 +111,26 @@ pub fn against_model(rows: &[(&str, f64)]) {
     println!();
 }
 
+/// One refused input: what is wrong, the call, what it says, and the times in nanoseconds with the bytes of stack.
+pub struct Refused {
+    pub what: &'static str,
+    pub call: &'static str,
+    pub said: String,
+    pub proved: f64,
+    pub plain: f64,
+    pub deep: usize,
+}
+
+/// Refused inputs at the limits.
+pub fn refused(rows: &[Refused]) {
+    head(&["refused input", "call", "reply", "proved, µs", "plain, µs", "ratio", "stack, bytes"]);
+    for r in rows {
+        let times = format!("{:.1} | {:.1} | {:.2}", r.proved / 1000.0, r.plain / 1000.0, r.proved / r.plain);
+        println!("| {} | {} | {} | {times} | {} |", r.what, r.call, r.said, r.deep);
+    }
+    println!();
+}
+
 pub fn stack(rows: &[(&str, usize)]) {
     head(&["call", "stack, bytes"]);
     for (call, bytes) in rows {

@@ -1,6 +1,7 @@
 //! The C library as a C or C++ programmer gets it: installed, found by pkg-config, with every warning an error.
 
 use crate::common::{ran, root};
+use crate::places::SAID;
 use std::path::{Path, PathBuf};
 use std::process::{Command, Stdio};
 use std::{env, fs};
@@ -68,22 +69,32 @@ subtask 8: processor 3 from 8 to 12
 subtask 9: processor 1 from 3 to 12
 the plan ends at 12, and is accepted
 ";
-    each(&install("example"), "example.c", |mut program, language| {
+    let prefix = install("example");
+    let twice = prefix.join("twice.stg");
+    fs::write(&twice, "2\n0 0 0\n1 5 1 0\n2 7 2 1 1\n3 0 1 2\n").unwrap();
+    each(&prefix, "example.c", |mut program, language| {
         let g = fs::File::open(root().join("crates/vectors/data/g.stg")).unwrap();
         assert_eq!(ran(program.stdin(Stdio::from(g))), expected, "{language}");
+        let refused = program.stdin(fs::File::open(&twice).unwrap()).output().unwrap();
+        assert_eq!(refused.status.code(), Some(1), "{language}");
+        assert_eq!(refused.stdout, b"refused by 6: arrow 2 stands twice\n", "{language}");
     });
 }
 
-/// Null pointers beside length 0, and the same texts of refusal as in Rust.
+/// Null pointers beside length 0, places, and the same texts of refusal as in Rust.
 #[test]
 fn edges() {
+    let words = SAID.iter().flat_map(|(number, place, second, _)| [number, place, second].map(u32::to_string));
+    let words: Vec<String> = words.collect();
     each(&install("edges"), "tests/edges.c", |mut program, language| {
-        let said = ran(&mut program);
-        let mut lines = said.lines();
-        assert_eq!(lines.next(), Some("0 accepted"), "{language}");
-        for (line, number) in lines.zip(1..) {
-            assert_eq!(line, format!("{number} {}", Reason::from_number(number).meaning()), "{language}");
+        let said = ran(program.args(&words));
+        let lines: Vec<&str> = said.lines().collect();
+        let (meanings, placed) = lines.split_at(100);
+        assert_eq!(meanings[0], "0 accepted", "{language}");
+        for (line, number) in meanings[1..].iter().zip(1..) {
+            assert_eq!(*line, format!("{number} {}", Reason::from_number(number).meaning()), "{language}");
         }
+        assert_eq!(placed, SAID.map(|(.., words)| words), "{language}");
     });
 }
 

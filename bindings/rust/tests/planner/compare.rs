@@ -6,11 +6,11 @@ use crate::common::{arrows, entries};
 use crate::model;
 use zulagbemi::{Arrow, Entry, Graph, Reason, Refusal, Verdict, MAX_WRITTEN};
 
-/// The reply with its refusal as the bare number, which must be one of the table.
-fn number<T>(reply: Result<T, Refusal>) -> Result<T, u32> {
+/// The reply with its refusal as the model's, whose number must be one of the table.
+fn plain<T>(reply: Result<T, Refusal>) -> model::Reply<T> {
     reply.map_err(|r| {
         assert_ne!(r.reason(), Reason::Unlisted);
-        r.number()
+        (r.number(), r.place(), r.second())
     })
 }
 
@@ -46,11 +46,12 @@ impl Case {
         }
     }
 
-    pub fn same_figures(&self, d: u32) {
+    /// Compares the figures and the verdict, and answers the verdict's reply.
+    pub fn same_figures(&self, d: u32) -> model::Reply<model::Answer> {
         let (g, t, a, m) = (self.graph(), &self.times[..], &self.pairs[..], self.m);
-        assert_eq!(number(g.total_work()), model::total_work(t, a), "{g:?}");
-        assert_eq!(number(g.longest_path()), model::longest_path(t, a), "{g:?}");
-        let proved = number(g.judge(m, d)).map(|a| model::Answer {
+        assert_eq!(plain(g.total_work()), model::total_work(t, a), "{g:?}");
+        assert_eq!(plain(g.longest_path()), model::longest_path(t, a), "{g:?}");
+        let proved = plain(g.judge(m, d)).map(|a| model::Answer {
             c: a.total_work,
             p: a.longest_path,
             s: a.bound,
@@ -61,23 +62,25 @@ impl Case {
             },
         });
         assert_eq!(proved, model::judge(t, a, m, d), "{g:?} {m} {d}");
+        proved
     }
 
     /// Compares the two list plans, the rows after the call too, and answers the row.
-    pub fn same_list(&self, random: &mut Random, order: &[u16]) -> Option<Vec<model::Entry>> {
+    pub fn same_list(&self, random: &mut Random, order: &[u16]) -> model::Reply<Vec<model::Entry>> {
         let (g, n, m) = (self.graph(), self.times.len(), self.m);
         let room = if random.once_in(8) { n.saturating_sub(1) } else { n + random.below(3) as usize };
         let before: Vec<model::Entry> = (0..room).map(|k| (random.below(256) as u8, k as u32 + 7)).collect();
         let (mut ours, mut theirs) = (entries(&before), before);
-        let reply = number(g.list_plan(m, order, &mut ours));
+        let reply = plain(g.list_plan(m, order, &mut ours));
         assert_eq!(reply, model::list_plan(&self.times, &self.pairs, m, order, &mut theirs), "{g:?} {m} {order:?}");
         assert_eq!(pairs(&ours), theirs, "{g:?} {m} {order:?}");
-        reply.ok().map(|_| theirs[..n].to_vec())
+        reply.map(|_| theirs[..n].to_vec())
     }
 
-    pub fn same_check(&self, plan: &[model::Entry]) -> Result<u32, u32> {
+    /// Compares the two checks of a plan, and answers the reply.
+    pub fn same_check(&self, plan: &[model::Entry]) -> model::Reply<u32> {
         let (g, m) = (self.graph(), self.m);
-        let reply = number(g.check_plan(m, &entries(plan)));
+        let reply = plain(g.check_plan(m, &entries(plan)));
         assert_eq!(reply, model::check_plan(&self.times, &self.pairs, m, plan), "{g:?} {m} {plan:?}");
         reply
     }
@@ -91,8 +94,8 @@ impl Case {
     }
 
     /// Compares the two writers in a room near the text's length, the room after the call too. What was written is read
-    /// again by both readers, and must be the graph with its arrows by "to" and then "from". Answers the number.
-    pub fn same_text(&self, random: &mut Random) -> u32 {
+    /// again by both readers, and must be the graph with its arrows by "to" and then "from". Answers the reply.
+    pub fn same_text(&self, random: &mut Random) -> model::Reply<usize> {
         let g = self.graph();
         let size = self.text().len();
         let room = match random.below(6) {
@@ -103,16 +106,16 @@ impl Case {
         };
         let before: Vec<u8> = (0..room).map(|_| random.below(256) as u8).collect();
         let (mut ours, mut theirs) = (before.clone(), before);
-        let reply = number(g.write_stg(&mut ours));
+        let reply = plain(g.write_stg(&mut ours));
         assert_eq!(reply, model::write_stg(&self.times, &self.pairs, &mut theirs), "{g:?} {room}");
         assert_eq!(ours, theirs, "{g:?} {room}");
         if let Ok(size) = reply {
-            assert_eq!(same_reading(&ours[..size], (256, 2048)), 0, "{g:?}");
+            assert!(same_reading(&ours[..size], (256, 2048)).is_ok(), "{g:?}");
             let mut sorted = self.pairs.clone();
             sorted.sort_unstable_by_key(|a| (a[1], a[0]));
             assert_eq!(model::read_stg(&ours[..size], 256, 2048), Ok((self.times.clone(), sorted)), "{g:?}");
         }
-        reply.err().unwrap_or(0)
+        reply
     }
 
     /// A graph with the same times and arrows has the same text, and one that differs in a time or an arrow another.
@@ -131,10 +134,11 @@ impl Case {
     }
 }
 
-/// Compares the two readings of a text in rows of this much room, the rows after the call too, and answers the number.
-pub fn same_reading(text: &[u8], (t, a): (usize, usize)) -> u32 {
+/// Compares the two readings of a text in rows of this much room, the rows after the call too, and answers how many
+/// subtasks and arrows were read.
+pub fn same_reading(text: &[u8], (t, a): (usize, usize)) -> model::Reply<(usize, usize)> {
     let (mut ours, mut ours_arrows) = (vec![0xAAAA_u16; t], vec![Arrow::new(7, 9); a]);
-    let reply = number(Graph::read_stg(text, &mut ours, &mut ours_arrows).map(|g| (g.times().len(), g.arrows().len())));
+    let reply = plain(Graph::read_stg(text, &mut ours, &mut ours_arrows).map(|g| (g.times().len(), g.arrows().len())));
     let expected = model::read_stg(text, t, a);
     let (mut times, mut pairs) = (vec![0u16; t], vec![[0u16, 0]; a]);
     if let Ok((ts, ar)) = &expected {
@@ -142,7 +146,7 @@ pub fn same_reading(text: &[u8], (t, a): (usize, usize)) -> u32 {
         pairs[..ar.len()].copy_from_slice(ar);
     }
     let shown = String::from_utf8_lossy(text);
-    assert_eq!(reply, expected.as_ref().map(|g| (g.0.len(), g.1.len())).map_err(|k| *k), "{shown}");
+    assert_eq!(reply, expected.map(|g| (g.0.len(), g.1.len())), "{shown}");
     assert_eq!((ours, ours_arrows), (times, arrows(&pairs)), "{shown}");
-    expected.err().unwrap_or(0)
+    reply
 }

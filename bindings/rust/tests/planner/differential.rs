@@ -4,6 +4,7 @@
 use crate::common::arrows;
 use crate::common::graphs::{graph, order, shuffle};
 use crate::common::random::Random;
+use crate::common::tally::Tally;
 use crate::common::texts::text;
 use crate::compare::{same_reading, Case};
 use crate::model;
@@ -13,15 +14,15 @@ fn cases() -> u64 {
     std::env::var("ZUL_CASES").ok().and_then(|n| n.parse().ok()).unwrap_or(30_000)
 }
 
-/// A plan near a good one.
+/// A plan near a good one, mostly with one fault, sometimes with several.
 fn changed(random: &mut Random, plan: &[model::Entry]) -> Vec<model::Entry> {
     let mut plan = plan.to_vec();
-    for _ in 0..random.among(1, 2) {
+    for _ in 0..random.pick(&[1, 1, 2, 5]) {
         if plan.is_empty() {
             break;
         }
         let at = random.below(plan.len() as u64) as usize;
-        match random.below(8) {
+        match random.below(9) {
             0 => plan[at].0 = random.pick(&[0, 1, 2, 3, 16, 17, 255]),
             1 => plan[at].1 = random.pick(&[0, 1, 16_776_959, 16_776_960, 16_776_961, u32::MAX]),
             2 => plan[at].1 = plan[at].1.saturating_add(random.among(1, 3) as u32),
@@ -34,41 +35,52 @@ fn changed(random: &mut Random, plan: &[model::Entry]) -> Vec<model::Entry> {
                 let other = random.below(plan.len() as u64) as usize;
                 plan.swap(at, other);
             }
-            _ => plan.iter_mut().for_each(|e| e.1 = e.1.saturating_add(1)),
+            7 => plan[at].0 = random.pick(&plan).0,
+            _ => later(&mut plan, at),
         }
     }
     plan
 }
 
+/// What starts where this entry does, or after it, does so later by 1: there a processor idles.
+fn later(plan: &mut [model::Entry], at: usize) {
+    let from = plan[at].1;
+    plan.iter_mut().filter(|e| e.1 >= from).for_each(|e| e.1 = e.1.saturating_add(1));
+}
+
+/// Any processors and starts, few enough of them that some plans come near to a good one.
+fn any_plan(random: &mut Random, n: usize) -> Vec<model::Entry> {
+    let least = random.below(2);
+    let last = random.pick(&[4, 20, 60]);
+    (0..n).map(|_| (random.among(least, 3) as u8, random.below(last) as u32)).collect()
+}
+
 #[test]
 fn graphs_and_plans() {
     let mut random = Random(1);
-    let (mut compared, mut counts) = (0u64, [0u64; 25]);
+    let (mut verdicts, mut lists, mut checks) = (Tally::default(), Tally::default(), Tally::default());
     for _ in 0..cases() {
         let case = Case::new(&mut random);
         let d = case.deadline(&mut random);
-        case.same_figures(d);
+        verdicts.add(&case.same_figures(d));
         let order = order(&mut random, case.times.len());
         let listed = case.same_list(&mut random, &order);
-        compared += 4;
-        let base = listed.clone().unwrap_or_else(|| case.times.iter().map(|_| (1, 0)).collect());
+        lists.add(&listed);
+        let base = listed.clone().unwrap_or_else(|_| case.times.iter().map(|_| (1, 0)).collect());
         let mut plans = vec![base.clone(), changed(&mut random, &base), changed(&mut random, &base)];
         if case.times.len() <= 12 {
-            plans.push(case.times.iter().map(|_| (random.below(4) as u8, random.below(20) as u32)).collect());
+            plans.push(any_plan(&mut random, case.times.len()));
         }
         for plan in plans {
-            let k = case.same_check(&plan).err().unwrap_or(0);
-            counts[k as usize] += 1;
-            compared += 1;
+            checks.add(&case.same_check(&plan));
         }
-        if listed.is_some() {
+        if listed.is_ok() {
             assert!(case.same_check(&base).is_ok());
         }
     }
-    println!("{compared} comparisons; plan checks by number: {counts:?}");
-    for k in [0, 1, 2, 3, 4, 5, 6, 7, 8, 12, 13, 14, 15, 16, 17] {
-        assert!(counts[k] > 0, "no plan check answered {k}");
-    }
+    verdicts.has("verdicts", &[0, 1, 2, 3, 4, 5, 6, 7, 8, 9]);
+    lists.has("list plans", &[0, 1, 2, 3, 4, 5, 6, 7, 8, 10, 11]);
+    checks.has("plan checks", &[0, 1, 2, 3, 4, 5, 6, 7, 8, 12, 13, 14, 15, 16, 17]);
 }
 
 #[test]
@@ -106,7 +118,7 @@ fn demand_three() {
 #[test]
 fn texts() {
     let mut random = Random(3);
-    let mut counts = [0u64; 25];
+    let mut tally = Tally::default();
     for _ in 0..cases() {
         let (times, arrows) = graph(&mut random);
         let mut text = text(&mut random, &times, &arrows);
@@ -120,28 +132,22 @@ fn texts() {
             3 => (300, 2100),
             _ => (256, 2048),
         };
-        counts[same_reading(&text, room) as usize] += 1;
+        tally.add(&same_reading(&text, room));
     }
-    println!("texts by number: {counts:?}");
-    for k in [0, 2, 3, 4, 5, 6, 7, 11, 20, 21, 22, 23, 24] {
-        assert!(counts[k] > 0, "no text was answered {k}");
-    }
+    tally.has("readings", &[0, 2, 3, 4, 5, 6, 7, 11, 20, 21, 22, 23, 24]);
 }
 
 #[test]
 fn written_texts() {
     let mut random = Random(4);
-    let mut counts = [0u64; 25];
+    let mut tally = Tally::default();
     for _ in 0..cases() {
         let case = Case::new(&mut random);
-        let number = case.same_text(&mut random);
-        counts[number as usize] += 1;
-        if number == 0 {
+        let reply = case.same_text(&mut random);
+        tally.add(&reply);
+        if reply.is_ok() {
             case.text_tells_graph(&mut random);
         }
     }
-    println!("written texts by number: {counts:?}");
-    for k in [0, 1, 2, 3, 4, 5, 6, 7, 11] {
-        assert!(counts[k] > 0, "no graph was answered {k}");
-    }
+    tally.has("written texts", &[0, 1, 2, 3, 4, 5, 6, 7, 11]);
 }

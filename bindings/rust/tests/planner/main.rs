@@ -14,4 +14,8 @@ mod once;
 mod outside;
 #[path = "../../benches/speed/painted.rs"]
 mod painted;
+mod places;
 mod promises;
+#[allow(dead_code)]
+#[path = "../../benches/speed/refused.rs"]
+mod refused;

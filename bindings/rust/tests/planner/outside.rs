@@ -35,7 +35,7 @@ fn proved(text: &[u8]) -> String {
 fn modelled(text: &[u8]) -> String {
     let (times, arrows) = match model::read_stg(text, 256, 2048) {
         Ok(graph) => graph,
-        Err(number) => return format!("refused,{number}\n"),
+        Err((number, ..)) => return format!("refused,{number}\n"),
     };
     let figures = |m| {
         let a = model::judge(&times, &arrows, m, 1).unwrap();

@@ -1,16 +1,22 @@
 //! What the header and the crate say of stack, threads and libraries.
 
 use crate::common::ran;
-use crate::{families, painted};
+use crate::{families, painted, refused};
 use std::process::Command;
 use zulagbemi::{Arrow, Entry, Graph, MAX_ARROWS, MAX_SUBTASKS, MAX_TIME, MAX_WRITTEN};
 
+/// Every call on the largest graph and on refused ones, and the plan check of refused plans.
 #[test]
 fn less_than_16_kib_of_stack() {
-    for (call, deep) in painted::depths(&families::largest()) {
-        println!("{call}: {deep} bytes");
-        assert!(deep > 1024, "{call}: {deep} bytes, which is too little to be true");
-        assert!(deep < 16 * 1024, "{call}: {deep} bytes");
+    let mut measured: Vec<_> = painted::depths(&families::largest()).into_iter().map(|d| ("accepted", d)).collect();
+    for r in refused::refused() {
+        measured.extend(painted::depths(&r.sample).into_iter().map(|d| (r.what, d)));
+        measured.push((r.what, (r.call(), painted::deep(|| r.reply().unwrap_err()))));
+    }
+    for (input, (call, deep)) in measured {
+        println!("{input}, {call}: {deep} bytes");
+        assert!(deep > 1024, "{input}, {call}: {deep} bytes, which is too little to be true");
+        assert!(deep < 16 * 1024, "{input}, {call}: {deep} bytes");
     }
 }
 

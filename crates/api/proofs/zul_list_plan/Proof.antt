@@ -21,9 +21,9 @@ use Rattle.api.proofs.FlatEnd.Laws as F′
 use Rattle.plans.proofs.list_plan as list
 use Rattle.plans.proofs.list_plan.Symbol as list-def
 use Rattle.plans.proofs.list_plan.Met as list-thm
-use Rattle.api.proofs.flatten_end as flatten
-use Rattle.api.proofs.flatten_end.Symbol as flatten-def
-use Rattle.api.proofs.flatten_end.Met as flatten-thm
+use Rattle.api.proofs.flats.flatten_end as flatten
+use Rattle.api.proofs.flats.flatten_end.Symbol as flatten-def
+use Rattle.api.proofs.flats.flatten_end.Met as flatten-thm
 use Rattle.api.proofs.zul_list_plan.Key.{name as #f}
 use Rattle.api.proofs.zul_list_plan as f
 use Rattle.api.proofs.zul_list_plan.Statement as stated
@@ -81,4 +81,4 @@ unfolding code.routine tablesOf
 zul-list-plan-spec 𝓤 H 𝓜 𝓖 𝓡 =
     entered 𝓤 H _ _ _ #f code.function (code.unfolded 𝓤 H 𝓜 𝓡) (meets 𝓤 H (𝓖 .A) (givenOf 𝓤 H 𝓜 𝓖) (𝓜 .mem) (𝓡 .run) (tablesOf 𝓤 H 𝓜 (tables 𝓤 H 𝓜 𝓡 code.env))
     (record { met = cited 𝓤 H _ 𝓜 𝓡 code.env list-def.name list-def.routine code.calls-plans·list-plan (list-thm.met 𝓤 H 𝓜 𝓖 𝓡) })
-    (record { met = cited 𝓤 H _ 𝓜 𝓡 code.env flatten-def.name flatten-def.routine code.calls-api·flatten-end (flatten-thm.met 𝓤 H 𝓜 𝓖 𝓡) }))
+    (record { met = cited 𝓤 H _ 𝓜 𝓡 code.env flatten-def.name flatten-def.routine code.calls-api·flats·flatten-end (flatten-thm.met 𝓤 H 𝓜 𝓖 𝓡) }))

@@ -1,9 +1,9 @@
 //! The reader, in one pass over the text.
 
-use super::measure;
+use super::{bare, first, measure, Reply};
 
 /// `Ok` holds the counts.
-pub fn read_stg(text: &[u8], times: &mut [u16], arrows: &mut [[u16; 2]]) -> Result<(usize, usize), u32> {
+pub fn read_stg(text: &[u8], times: &mut [u16], arrows: &mut [[u16; 2]]) -> Reply<(usize, usize)> {
     times.fill(0);
     arrows.fill([0, 0]);
     let result = read(text, times, arrows);
@@ -14,31 +14,31 @@ pub fn read_stg(text: &[u8], times: &mut [u16], arrows: &mut [[u16; 2]]) -> Resu
     result
 }
 
-fn read(text: &[u8], times: &mut [u16], arrows: &mut [[u16; 2]]) -> Result<(usize, usize), u32> {
+fn read(text: &[u8], times: &mut [u16], arrows: &mut [[u16; 2]]) -> Reply<(usize, usize)> {
     if times.len() < 256 || arrows.len() < 2048 {
-        return Err(11);
+        return Err(bare(11));
     }
     if text.len() > 60_000 {
-        return Err(20);
+        return Err(bare(20));
     }
     let mut at = 0;
     let n = match field(text, &mut at) {
         Some(Ok(n)) if (1..=256).contains(&n) => n as usize,
-        _ => return Err(21),
+        _ => return Err(bare(21)),
     };
     if !end_line(text, &mut at) {
-        return Err(21);
+        return Err(bare(21));
     }
     let mut count = 0;
     for i in 0..=n + 1 {
-        task(text, &mut at, i, n, times, arrows, &mut count)?;
+        task(text, &mut at, i, n, times, arrows, &mut count).map_err(bare)?;
     }
-    rest(text, at)?;
+    rest(text, at).map_err(bare)?;
     if times[..n].contains(&0) {
-        return Err(2);
+        return Err(first(2, times, |t| *t == 0));
     }
     if count > 2048 {
-        return Err(3);
+        return Err(bare(3));
     }
     measure(&times[..n], &arrows[..count])?;
     Ok((n, count))

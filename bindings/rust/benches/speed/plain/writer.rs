@@ -1,9 +1,9 @@
 //! The writer.
 
-use super::measure;
+use super::{bare, measure, Reply};
 
 /// `Ok` holds how many bytes were written.
-pub fn write_stg(times: &[u16], arrows: &[[u16; 2]], room: &mut [u8]) -> Result<usize, u32> {
+pub fn write_stg(times: &[u16], arrows: &[[u16; 2]], room: &mut [u8]) -> Reply<usize> {
     let (_, _, graph) = measure(times, arrows)?;
     let n = times.len();
     // predecessors in one row, by counting; each comes in turn, so every subtask's are ascending
@@ -44,7 +44,7 @@ pub fn write_stg(times: &[u16], arrows: &[[u16; 2]], room: &mut [u8]) -> Result<
     more(&mut text, last().count() as u16);
     last().for_each(|j| more(&mut text, j as u16));
     text.push(b'\n');
-    room.get_mut(..text.len()).ok_or(11u32)?.copy_from_slice(&text);
+    room.get_mut(..text.len()).ok_or(bare(11))?.copy_from_slice(&text);
     Ok(text.len())
 }
 

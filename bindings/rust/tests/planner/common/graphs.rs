@@ -22,8 +22,13 @@ pub fn graph(random: &mut Random) -> (Vec<u16>, Vec<[u16; 2]>) {
             *a = [name[a[0] as usize - 1], name[a[1] as usize - 1]];
         }
     }
-    for _ in 0..random.pick(&[0, 0, 0, 0, 0, 0, 1, 2]) {
-        damage(random, &mut times, &mut arrows);
+    let mut fault = random.below(8);
+    for _ in 0..random.pick(&[0, 0, 0, 0, 0, 0, 0, 0, 0, 1, 2, 4]) {
+        damage(random, fault, &mut times, &mut arrows);
+        // mostly the same fault at several places
+        if random.once_in(4) {
+            fault = random.below(8);
+        }
     }
     (times, arrows)
 }
@@ -50,10 +55,10 @@ fn many_arrows(random: &mut Random, n: usize) -> Vec<[u16; 2]> {
 }
 
 /// One fault of 2 or 4 to 7, where there is something to damage.
-fn damage(random: &mut Random, times: &mut [u16], arrows: &mut Vec<[u16; 2]>) {
+fn damage(random: &mut Random, fault: u64, times: &mut [u16], arrows: &mut Vec<[u16; 2]>) {
     let n = times.len();
     let at = random.below(arrows.len() as u64 + 1) as usize;
-    match random.below(7) {
+    match fault {
         0 if n > 0 => times[random.below(n as u64) as usize] = 0,
         1 => {
             arrows.insert(at, [random.pick(&[0, n as u16, n as u16 + 1, 65_535]), random.among(1, n as u64 + 1) as u16])
@@ -71,11 +76,25 @@ fn damage(random: &mut Random, times: &mut [u16], arrows: &mut Vec<[u16; 2]>) {
             let back = random.pick(arrows);
             arrows.insert(at, [back[1], back[0]]);
         }
-        _ if !arrows.is_empty() => {
+        6 if !arrows.is_empty() => {
             let (a, b) = (random.pick(arrows), random.pick(arrows));
             arrows.insert(at, [a[1], b[0]]);
         }
+        7 if n > 1 => ring(random, n, arrows),
         _ => {}
+    }
+}
+
+/// A cycle through 2 to 5 subtasks, of arrows put anywhere among the others; none twice.
+fn ring(random: &mut Random, n: usize, arrows: &mut Vec<[u16; 2]>) {
+    let mut on: Vec<u16> = (1..=n as u16).collect();
+    shuffle(random, &mut on);
+    on.truncate(random.among(2, 5) as usize);
+    for k in 0..on.len() {
+        let arrow = [on[k], on[(k + 1) % on.len()]];
+        if !arrows.contains(&arrow) {
+            arrows.insert(random.below(arrows.len() as u64 + 1) as usize, arrow);
+        }
     }
 }
 

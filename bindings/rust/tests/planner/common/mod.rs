@@ -2,6 +2,7 @@
 
 pub mod graphs;
 pub mod random;
+pub mod tally;
 pub mod texts;
 
 use crate::model;

@@ -10,82 +10,90 @@ pub use texts::{read_stg, write_stg};
 /// What a plan holds for one subtask.
 pub type Entry = (u8, u32);
 
-/// The lowest of 1 to 7 whose condition holds, 0 where none does.
-pub fn graph_number(times: &[u16], arrows: &[[u16; 2]]) -> u32 {
+/// The number of the table, its place, and the second number.
+pub type Refusal = (u32, u32, u32);
+
+/// What a call answers, or why it refuses.
+pub type Reply<T> = Result<T, Refusal>;
+
+/// A refusal without a place.
+fn bare(number: u32) -> Refusal {
+    (number, 0, 0)
+}
+
+/// A refusal whose place is the first in a row, counted from 1, that this is true of; none where it is true of none.
+fn first<T>(number: u32, row: &[T], wrong: impl FnMut(&T) -> bool) -> Reply<()> {
+    match row.iter().position(wrong) {
+        Some(k) => Err((number, k as u32 + 1, 0)),
+        None => Ok(()),
+    }
+}
+
+/// The lowest of 1 to 7 whose condition holds.
+pub fn check(times: &[u16], arrows: &[[u16; 2]]) -> Reply<()> {
     let n = times.len();
     let inside = |j: u16| j >= 1 && usize::from(j) <= n;
     if !(1..=256).contains(&n) {
-        return 1;
+        return Err(bare(1));
     }
-    if times.contains(&0) {
-        return 2;
-    }
+    first(2, times, |t| *t == 0)?;
     if arrows.len() > 2048 {
-        return 3;
+        return Err(bare(3));
     }
-    if arrows.iter().any(|a| !inside(a[0]) || !inside(a[1])) {
-        return 4;
-    }
-    if arrows.iter().any(|a| a[0] == a[1]) {
-        return 5;
-    }
+    first(4, arrows, |a| !inside(a[0]) || !inside(a[1]))?;
+    first(5, arrows, |a| a[0] == a[1])?;
     let mut seen = std::collections::HashSet::new();
-    if !arrows.iter().all(|a| seen.insert(*a)) {
-        return 6;
-    }
-    if has_cycle(times.len(), arrows) {
-        return 7;
-    }
-    0
+    first(6, arrows, |a| !seen.insert(*a))?;
+    let after = successors(n, arrows);
+    let subtasks: Vec<usize> = (0..n).collect();
+    first(7, &subtasks, |j| on_cycle(*j, &after))
 }
 
-/// Some subtask leads to itself: take away, again and again, what has no predecessor left.
-fn has_cycle(n: usize, arrows: &[[u16; 2]]) -> bool {
-    let mut left: Vec<u16> = (1..=n as u16).collect();
-    loop {
-        let before = left.len();
-        let now = left.clone();
-        left.retain(|j| arrows.iter().any(|a| a[1] == *j && now.contains(&a[0])));
-        if left.is_empty() {
-            return false;
-        }
-        if left.len() == before {
-            return true;
+/// Where the arrows out of each subtask lead. From here on the subtask with the number j stands at j - 1.
+fn successors(n: usize, arrows: &[[u16; 2]]) -> Vec<Vec<usize>> {
+    let mut after = vec![Vec::new(); n];
+    for a in arrows {
+        after[usize::from(a[0]) - 1].push(usize::from(a[1]) - 1);
+    }
+    after
+}
+
+/// A path with at least one arrow leads from the subtask to itself: it is among all that can be reached from it.
+fn on_cycle(j: usize, after: &[Vec<usize>]) -> bool {
+    let mut reached = vec![false; after.len()];
+    let mut open = vec![j];
+    while let Some(i) = open.pop() {
+        for k in &after[i] {
+            if !reached[*k] {
+                reached[*k] = true;
+                open.push(*k);
+            }
         }
     }
+    reached[j]
 }
 
 /// C: the sum of all times.
-pub fn total_work(times: &[u16], arrows: &[[u16; 2]]) -> Result<u32, u32> {
-    match graph_number(times, arrows) {
-        0 => Ok(times.iter().map(|t| u32::from(*t)).sum()),
-        k => Err(k),
-    }
+pub fn total_work(times: &[u16], arrows: &[[u16; 2]]) -> Reply<u32> {
+    check(times, arrows)?;
+    Ok(times.iter().map(|t| u32::from(*t)).sum())
 }
 
 /// P: the largest sum of times along any path of arrows.
-pub fn longest_path(times: &[u16], arrows: &[[u16; 2]]) -> Result<u32, u32> {
-    fn heaviest(j: usize, times: &[u16], into: &[Vec<usize>], known: &mut [Option<u32>]) -> u32 {
+pub fn longest_path(times: &[u16], arrows: &[[u16; 2]]) -> Reply<u32> {
+    fn heaviest(j: usize, times: &[u16], after: &[Vec<usize>], known: &mut [Option<u32>]) -> u32 {
         if let Some(w) = known[j] {
             return w;
         }
-        let before = into[j].iter().map(|i| heaviest(*i, times, into, known)).max().unwrap_or(0);
-        let w = before + u32::from(times[j]);
+        let behind = after[j].iter().map(|k| heaviest(*k, times, after, known)).max().unwrap_or(0);
+        let w = u32::from(times[j]) + behind;
         known[j] = Some(w);
         w
     }
-    match graph_number(times, arrows) {
-        0 => {
-            let n = times.len();
-            let mut into = vec![Vec::new(); n];
-            for a in arrows {
-                into[usize::from(a[1]) - 1].push(usize::from(a[0]) - 1);
-            }
-            let mut known = vec![None; n];
-            Ok((0..n).map(|j| heaviest(j, times, &into, &mut known)).max().unwrap())
-        }
-        k => Err(k),
-    }
+    check(times, arrows)?;
+    let n = times.len();
+    let (after, mut known) = (successors(n, arrows), vec![None; n]);
+    Ok((0..n).map(|j| heaviest(j, times, &after, &mut known)).max().unwrap())
 }
 
 /// C, P, S, the load, and the spare (`Ok`) or the shortfall (`Err`).
@@ -98,14 +106,14 @@ pub struct Answer {
     pub verdict: Result<u32, u32>,
 }
 
-pub fn judge(times: &[u16], arrows: &[[u16; 2]], m: u32, d: u32) -> Result<Answer, u32> {
+pub fn judge(times: &[u16], arrows: &[[u16; 2]], m: u32, d: u32) -> Reply<Answer> {
     let c = total_work(times, arrows)?;
     let p = longest_path(times, arrows)?;
     if !(1..=16).contains(&m) {
-        return Err(8);
+        return Err(bare(8));
     }
     if !(1..=1_000_000).contains(&d) {
-        return Err(9);
+        return Err(bare(9));
     }
     let s = c + (m - 1) * p;
     let verdict = if m * d >= s { Ok(m * d - s) } else { Err(s - m * d) };

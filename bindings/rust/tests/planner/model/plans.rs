@@ -1,18 +1,19 @@
 //! The list rule and the plan check.
 
-use super::{graph_number, Entry};
+use super::{bare, check, first, Entry, Reply};
 
 /// The place in a row of the subtask with this number.
 fn place(j: u16) -> usize {
     usize::from(j) - 1
 }
 
-/// The graph's own number, then 8.
-fn graph_and_processors(times: &[u16], arrows: &[[u16; 2]], m: u32) -> Result<(), u32> {
-    match graph_number(times, arrows) {
-        0 if (1..=16).contains(&m) => Ok(()),
-        0 => Err(8),
-        k => Err(k),
+/// The graph's own refusal, then 8.
+fn check_on(times: &[u16], arrows: &[[u16; 2]], m: u32) -> Reply<()> {
+    check(times, arrows)?;
+    if (1..=16).contains(&m) {
+        Ok(())
+    } else {
+        Err(bare(8))
     }
 }
 
@@ -56,14 +57,14 @@ impl Making<'_> {
 
 /// The list rule: at t = 0, 1, 2, .. the ready subtask earliest in the order goes to the free processor with
 /// the lowest number, as long as there are both. Instants at which nothing ends are passed over.
-pub fn list_plan(times: &[u16], arrows: &[[u16; 2]], m: u32, order: &[u16], plan: &mut [Entry]) -> Result<u32, u32> {
-    graph_and_processors(times, arrows, m)?;
+pub fn list_plan(times: &[u16], arrows: &[[u16; 2]], m: u32, order: &[u16], plan: &mut [Entry]) -> Reply<u32> {
+    check_on(times, arrows, m)?;
     let n = times.len();
     if !is_order(n, order) {
-        return Err(10);
+        return Err(bare(10));
     }
     if plan.len() < n {
-        return Err(11);
+        return Err(bare(11));
     }
     let mut made = Making { times, arrows, placed: vec![None; n] };
     let mut t = 0;
@@ -102,28 +103,28 @@ fn idle(times: &[u16], arrows: &[[u16; 2]], m: u32, plan: &[Entry], t: u32) -> b
 }
 
 /// The plan check, row by row of the table.
-pub fn check_plan(times: &[u16], arrows: &[[u16; 2]], m: u32, plan: &[Entry]) -> Result<u32, u32> {
-    graph_and_processors(times, arrows, m)?;
+pub fn check_plan(times: &[u16], arrows: &[[u16; 2]], m: u32, plan: &[Entry]) -> Reply<u32> {
+    check_on(times, arrows, m)?;
     let n = times.len();
     if plan.len() != n {
-        return Err(12);
+        return Err(bare(12));
     }
-    if plan.iter().any(|e| !(1..=m).contains(&u32::from(e.0))) {
-        return Err(13);
+    first(13, plan, |e| !(1..=m).contains(&u32::from(e.0)))?;
+    first(14, plan, |e| e.1 > 16_776_960)?;
+    let early = |a: &&[u16; 2]| plan[place(a[1])].1 < end_of(times, plan, place(a[0]));
+    if let Some(a) = arrows.iter().filter(early).min_by_key(|a| a[1]) {
+        return Err((15, u32::from(a[1]), 0));
     }
-    if plan.iter().any(|e| e.1 > 16_776_960) {
-        return Err(14);
-    }
-    if arrows.iter().any(|a| plan[place(a[1])].1 < end_of(times, plan, place(a[0]))) {
-        return Err(15);
-    }
-    if (0..n).any(|i| (0..i).any(|j| overlap(times, plan, i, j))) {
-        return Err(16);
+    let mut pairs = (0..n).flat_map(|i| (i + 1..n).map(move |j| (i, j)));
+    if let Some((i, j)) = pairs.find(|(i, j)| overlap(times, plan, *i, *j)) {
+        return Err((16, i as u32 + 1, j as u32 + 1));
     }
     // what is ready and what is free change only at 0 and where a subtask ends or starts
-    let instants = (0..n).flat_map(|j| [plan[j].1, end_of(times, plan, j)]);
-    if instants.chain([0]).any(|t| idle(times, arrows, m, plan, t)) {
-        return Err(17);
+    let mut instants: Vec<u32> = (0..n).flat_map(|j| [plan[j].1, end_of(times, plan, j)]).chain([0]).collect();
+    instants.sort_unstable();
+    instants.dedup();
+    if let Some(t) = instants.into_iter().find(|t| idle(times, arrows, m, plan, *t)) {
+        return Err((17, t, 0));
     }
     Ok(plan_end(times, plan))
 }

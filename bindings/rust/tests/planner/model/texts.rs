@@ -1,42 +1,43 @@
 //! The reader and the writer.
 
-use super::graph_number;
+use super::{bare, check, first, Reply};
 
 /// `Ok` holds the times and the arrows of the graph that was read.
-pub fn read_stg(text: &[u8], times_room: usize, arrows_room: usize) -> Result<(Vec<u16>, Vec<[u16; 2]>), u32> {
+pub fn read_stg(text: &[u8], times_room: usize, arrows_room: usize) -> Reply<(Vec<u16>, Vec<[u16; 2]>)> {
     if times_room < 256 || arrows_room < 2048 {
-        return Err(11);
+        return Err(bare(11));
     }
     if text.len() > 60_000 {
-        return Err(20);
+        return Err(bare(20));
     }
-    let lines = lines(text);
+    let (times, arrows) = graph(&lines(text)).map_err(bare)?;
+    let n = times.len() as u64;
+    first(2, &times, |t| *t == 0)?;
+    if arrows.len() > 2048 {
+        return Err(bare(3));
+    }
+    // a predecessor as it was written can be above what 16 bits hold
+    first(4, &arrows, |a| a[0] > n)?;
+    let arrows: Vec<[u16; 2]> = arrows.iter().map(|a| [a[0] as u16, a[1] as u16]).collect();
+    check(&times, &arrows)?;
+    Ok((times, arrows))
+}
+
+/// The first line, the lines of the tasks and what stands behind them, or the number of the earliest line that is wrong.
+fn graph(lines: &[&[u8]]) -> Result<(Vec<u16>, Vec<[u64; 2]>), u32> {
     let first = lines.first().and_then(|l| numbers(l)).ok_or(21u32)?;
     if first.len() != 1 || !(1..=256).contains(&first[0]) {
         return Err(21);
     }
     let n = first[0] as usize;
-    let (times, arrows) = tasks(n, &lines[1..])?;
+    let read = tasks(n, &lines[1..])?;
     for line in &lines[(n + 3).min(lines.len())..] {
         let blank = line.iter().all(|b| *b == b' ' || *b == b'\t');
         if !blank && line.first() != Some(&b'#') {
             return Err(22);
         }
     }
-    if times.contains(&0) {
-        return Err(2);
-    }
-    if arrows.len() > 2048 {
-        return Err(3);
-    }
-    if arrows.iter().any(|a| a[0] < 1 || a[0] > n as u64) {
-        return Err(4);
-    }
-    let arrows: Vec<[u16; 2]> = arrows.iter().map(|a| [a[0] as u16, a[1] as u16]).collect();
-    match graph_number(&times, &arrows) {
-        0 => Ok((times, arrows)),
-        k => Err(k),
-    }
+    Ok(read)
 }
 
 /// The lines of a text without their ends, LF or CR LF; the last may lack its end.
@@ -90,15 +91,11 @@ fn numbers(line: &[u8]) -> Option<Vec<u64>> {
 }
 
 /// The graph as a text, put at the front of the room; answers its length.
-pub fn write_stg(times: &[u16], arrows: &[[u16; 2]], room: &mut [u8]) -> Result<usize, u32> {
-    match graph_number(times, arrows) {
-        0 => {
-            let text = written(times, arrows);
-            room.get_mut(..text.len()).ok_or(11u32)?.copy_from_slice(text.as_bytes());
-            Ok(text.len())
-        }
-        k => Err(k),
-    }
+pub fn write_stg(times: &[u16], arrows: &[[u16; 2]], room: &mut [u8]) -> Reply<usize> {
+    check(times, arrows)?;
+    let text = written(times, arrows);
+    room.get_mut(..text.len()).ok_or(bare(11))?.copy_from_slice(text.as_bytes());
+    Ok(text.len())
 }
 
 /// The count of subtasks, then the lines of tasks 0 to n+1.

@@ -37,18 +37,6 @@ next-chain = both (λ c. rw (c .chain-begin .ensures) (met-next (c .before .befo
 source-requires : tie.Need-source-requires Inv-loop μ-loop
 source-requires c κs = (omega arith, c .before .loop .inv .along .within)
 
-mul-met-in : tie.Need-mul-met-in Inv-loop μ-loop
-mul-met-in c = omega arith
-
-array-read-met-in : tie.Need-array-read-met-in Inv-loop μ-loop
-array-read-met-in c = at-arrow c .from-small
-
-mul-met-in-2 : tie.Need-mul-met-in-2 Inv-loop μ-loop
-mul-met-in-2 c = omega arith
-
-array-read-met-in-2 : tie.Need-array-read-met-in-2 Inv-loop μ-loop
-array-read-met-in-2 c = at-arrow c .from-small
-
 cast-seen : tie.Need-cast-seen Inv-loop μ-loop
 cast-seen c = let r = c .before .before .before .before .loop .inv in omega (arith, r .within, r .tidy .subtasks)
 
@@ -89,10 +77,10 @@ first-repeat-spec =
     (next-chain .1)
     (next-chain .0)
     source-requires
-    mul-met-in
-    array-read-met-in
-    mul-met-in-2
-    array-read-met-in-2
+    (λ c. omega arith)
+    (λ c. at-arrow c .from-small)
+    (λ c. omega arith)
+    (λ c. at-arrow c .from-small)
     (λ c κs. tt)
     (λ c κs. tt)
     cast-seen

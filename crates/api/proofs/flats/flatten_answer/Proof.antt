@@ -4,8 +4,8 @@ use mathlib.Core.Path.{_∙_, sym, ap}
 use lib.Ieee.{ofBits}
 use Rattle.terms.specs.declared.Outcome.the-variants.{Judged}
 use Rattle.api.specs.Flats.{flatOutcome}
-use Rattle.api.proofs.flatten_answer.Statement.{statement}
-use Rattle.api.proofs.flatten_answer.Tie as tie
+use Rattle.api.proofs.flats.flatten_answer.Statement.{statement}
+use Rattle.api.proofs.flats.flatten_answer.Tie as tie
 
 enum-known-outcome : tie.Need-enum-known-outcome
 enum-known-outcome c = search needs
@@ -24,9 +24,6 @@ flatten-judged-requires-2 c κs = search needs
 
 enum-known-outcome-2 : tie.Need-enum-known-outcome-2
 enum-known-outcome-2 c = search needs
-
-cast-t10 : tie.Need-cast-t10
-cast-t10 c = search needs
 
 returns : tie.Need-returns
 returns c =
@@ -47,7 +44,7 @@ unfolding ofBits
 returns-3 c =
     let c-args = c .before .before .before .before .before .args in
     let c-outcome2 = c .before .before .outcome2 in
-    sym (ap (flatOutcome (c-args .reply .figures)) (c-outcome2 .given .1))
+    rw (c .flatten-refusal .ensures) (sym (ap (flatOutcome (c-args .reply .figures)) (c-outcome2 .given .1)))
 
 pub flatten-answer-spec : {M : Type 1} → statement M
 flatten-answer-spec =
@@ -59,7 +56,7 @@ flatten-answer-spec =
     enum-known-verdict-2
     flatten-judged-requires-2
     enum-known-outcome-2
-    cast-t10
+    (λ c κs. tt)
     returns
     returns-2
     returns-3)
