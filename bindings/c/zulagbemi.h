@@ -28,9 +28,9 @@
 extern "C" {
 #endif
 
-#define ZUL_VERSION "0.3.0"
+#define ZUL_VERSION "0.4.0"
 #define ZUL_VERSION_MAJOR 0
-#define ZUL_VERSION_MINOR 3
+#define ZUL_VERSION_MINOR 4
 #define ZUL_VERSION_PATCH 0
 
 /* The limits ("Numbers"). */
@@ -149,8 +149,9 @@ typedef struct { uint8_t processor; uint32_t start; } zul_entry;
 /* C or P. */
 typedef struct { uint32_t number, place, second, value; } zul_amount;
 
-/* C (total work), P (longest path), S = C + (m - 1) * P, the load C / (m * d) rounded once. Where fits is 1 the margin
- * is the spare m * d - S, where it is 0 the shortfall S - m * d. */
+/* C (total work), P (longest path), S = C + (m - 1) * P, the load C / (m * d) rounded once. No accepted plan ends after
+ * S / m rounded down. Where fits is 1, d is not below that, and the margin is the spare d - S / m; where it is 0 the
+ * margin is the shortfall S / m - d; in whole microseconds. */
 typedef struct { uint32_t number, place, second, c, p, s; float load; uint32_t fits, margin; } zul_answer;
 
 /* Where a plan ends. */

@@ -20,8 +20,10 @@ fn run() -> Result<(), Box<dyn Error>> {
     println!("C = {}, P = {}, S = {}", answer.total_work, answer.longest_path, answer.bound);
     println!("load {:.3} on M = {m} with D = {d}", answer.load);
     match answer.verdict {
-        Verdict::Fits { spare } => println!("fits: no accepted plan ends after {d}; M × D is {spare} above S"),
-        Verdict::Late { shortfall } => println!("late: M × D is {shortfall} below S"),
+        Verdict::Fits { spare } => println!("fits, spare {spare}: no accepted plan ends after {}", d - spare),
+        Verdict::Late { shortfall } => {
+            println!("late, short {shortfall}: no accepted plan ends after {}", d + shortfall)
+        }
     }
     Ok(())
 }

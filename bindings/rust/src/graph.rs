@@ -128,7 +128,8 @@ impl<'a> Graph<'a> {
     /// ```
     /// use zulagbemi::{Graph, Reason, Verdict};
     /// let graph = Graph::new(&[5, 5], &[]);
-    /// assert_eq!(graph.judge(2, 7)?.verdict, Verdict::Late { shortfall: 1 });
+    /// assert_eq!(graph.judge(2, 7)?.verdict, Verdict::Fits { spare: 0 });
+    /// assert_eq!(graph.judge(2, 6)?.verdict, Verdict::Late { shortfall: 1 });
     /// assert_eq!(graph.judge(17, 7).unwrap_err().reason(), Reason::ProcessorCount);
     /// # Ok::<(), zulagbemi::Refusal>(())
     /// ```

@@ -28,17 +28,18 @@ pub struct Entry {
     pub start: u32,
 }
 
-/// Whether the work fits its deadline, in processor-microseconds: M × D against S.
+/// Whether the work fits its deadline D, and by how much, in microseconds. No accepted plan ends after S / M rounded
+/// down, the sure end.
 #[derive(Clone, Copy, PartialEq, Eq, Debug)]
 pub enum Verdict {
-    /// M × D is at least S.
+    /// D is at least S / M rounded down.
     Fits {
-        /// M × D − S.
+        /// D less S / M rounded down.
         spare: u32,
     },
-    /// M × D is below S.
+    /// D is below S / M rounded down.
     Late {
-        /// S − M × D.
+        /// S / M rounded down, less D.
         shortfall: u32,
     },
 }

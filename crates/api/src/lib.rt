@@ -35,7 +35,7 @@ pub struct FlatAmount {
     pub value: u32,
 }
 
-// C, P, S and the load; fits 1: the margin is the spare, fits 0: it is the shortfall.
+// C, P, S and the load; fits 1: the margin is the spare, fits 0: it is the shortfall, in microseconds.
 #[repr(C)]
 pub struct FlatAnswer {
     pub refusal: FlatRefusal,

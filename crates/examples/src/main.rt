@@ -149,6 +149,7 @@ fn around_g(times: &[u16], arrows: &[[u16; 2]], order: &[u16]) {
     print(b"\n5:");
     judged(times, arrows, 3, 20);
     judged(times, arrows, 3, 19);
+    judged(times, arrows, 3, 18);
 }
 
 fn graph_g() {
@@ -163,6 +164,7 @@ fn small_verdicts(fives: &[u16], none: &[[u16; 2]]) {
     print(b"\n6:");
     judged(fives, none, 2, 8);
     judged(fives, none, 2, 7);
+    judged(fives, none, 2, 6);
     print(b"\n7:");
     judged(&[1], none, 16, 1);
 }
@@ -213,6 +215,14 @@ fn refused_graphs() {
     let none = [0u16; 0];
     print_amount(total_work(&none, &[[1, 2]]));
     print_amount(total_work(&[1, 1], &[[1, 1], [1, 1]]));
+}
+
+// Example 14.
+fn long_last(none: &[[u16; 2]]) {
+    let times = [1u16, 1, 1, 1, 1, 1, 3, 1];
+    print(b"\n14:");
+    judged(&times, none, 3, 5);
+    listed(&times, none, 3, &[1, 2, 3, 4, 5, 6, 7, 8], 8);
 }
 
 // The refusals that neither the texts nor the examples meet: those of a question,
@@ -266,6 +276,7 @@ fn main() {
     small_plans(&fives, &none);
     longest_chain();
     refused_graphs();
+    long_last(&none);
     print(b"\nrefusals");
     refused_questions(&fives, &none);
     refused_rows();

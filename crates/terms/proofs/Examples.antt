@@ -1,4 +1,4 @@
--- The starred examples 1 to 10 of docs/PLANNER.md, shown from the definitions alone. Assumes nothing.
+-- The starred examples 1 to 10 and 14 of docs/PLANNER.md, shown from the definitions alone. Assumes nothing.
 use mathlib.Core.Path.{_≡_, refl, sym}
 use mathlib.Core.Logic.{Dec·and, Dec·not}
 use mathlib.Core.List.{List, [], _∷_}
@@ -12,7 +12,7 @@ use Rattle.terms.specs.Rows.{Accepted, refusalAt}
 use Rattle.terms.specs.Graphs.{IsSubtask, timeOf, fromOf, toOf, Precedes, LeadsTo}
 use Rattle.terms.specs.Sums.{sum}
 use Rattle.terms.specs.Paths.{totalWork, PathTo, alone, along, weight, IsLongest}
-use Rattle.terms.specs.Verdicts.{bound, IsVerdict, loadOf}
+use Rattle.terms.specs.Verdicts.{bound, sureEnd, IsVerdict, loadOf}
 use Rattle.terms.specs.Plans.{at, notPlaced, processorOf, startOf, endOf}
 use Rattle.terms.specs.ListRule.{put}
 use Rattle.terms.specs.Refusals.{graphRows, lowest}
@@ -49,6 +49,10 @@ shorterG = 2 ∷ 1 ∷ 1 ∷ 1 ∷ 3 ∷ 3 ∷ 3 ∷ 3 ∷ 8 ∷ []
 abbrev pub fewerG : List (List ℕ)
 fewerG = (1 ∷ 9 ∷ []) ∷ (4 ∷ 7 ∷ []) ∷ (4 ∷ 8 ∷ []) ∷ []
 
+-- six subtasks of time 1, then one of 3 and one of 1
+abbrev pub longLast : List ℕ
+longLast = 1 ∷ 1 ∷ 1 ∷ 1 ∷ 1 ∷ 1 ∷ 3 ∷ 1 ∷ []
+
 -- ---- what the examples say
 
 -- the graph is accepted and has these figures on M processors
@@ -76,8 +80,8 @@ pub record Examples : Type 0 where
   pub two : HasFigures shorterG arrowsG 3 25 10 45 × ListPlanEnds shorterG arrowsG orderG 3 13
   pub three : HasFigures timesG arrowsG 4 34 12 70 × ListPlanEnds timesG arrowsG orderG 4 15
   pub four : ListPlanEnds timesG fewerG orderG 3 16
-  pub five : Says timesG arrowsG 3 20 34 12 58 (Fits 2) × Says timesG arrowsG 3 19 34 12 58 (Late 1)
-  pub six : Says (5 ∷ 5 ∷ []) [] 2 8 10 5 15 (Fits 1) × Says (5 ∷ 5 ∷ []) [] 2 7 10 5 15 (Late 1)
+  pub five : Says timesG arrowsG 3 20 34 12 58 (Fits 1) × Says timesG arrowsG 3 19 34 12 58 (Fits 0) × Says timesG arrowsG 3 18 34 12 58 (Late 1)
+  pub six : Says (5 ∷ 5 ∷ []) [] 2 8 10 5 15 (Fits 1) × Says (5 ∷ 5 ∷ []) [] 2 7 10 5 15 (Fits 0) × Says (5 ∷ 5 ∷ []) [] 2 6 10 5 15 (Late 1)
   pub seven : Says (1 ∷ []) [] 16 1 1 1 16 (Fits 0)
   pub eight : HasFigures (3 ∷ 4 ∷ []) ((1 ∷ 2 ∷ []) ∷ []) 2 7 7 14
       × IsChecked (3 ∷ 4 ∷ []) ((1 ∷ 2 ∷ []) ∷ []) 2 (bothOnOne 0 3) (Ends 7)
@@ -85,6 +89,8 @@ pub record Examples : Type 0 where
   pub nine : IsChecked (3 ∷ []) [] 1 (at 1 1 ∷ []) (Refused (refusalAt 17 0 0))
   pub ten : IsChecked (5 ∷ 5 ∷ []) [] 2 (bothOnOne 0 5) (Refused (refusalAt 17 0 0))
       × IsChecked (5 ∷ 5 ∷ []) [] 1 (bothOnOne 0 5) (Ends 10)
+  -- the list plan ends at the sure end, 5 1/3 rounded down
+  pub fourteen : HasFigures longLast [] 3 10 3 16 × ListPlanEnds longLast [] (take 8 orderG) 3 (sureEnd 16 3) × Says longLast [] 3 5 10 3 16 (Fits 0)
   -- example 5's load, 34 / 60, is the float nearest to 0.56666..
   pub load : toBits binary32 (loadOf 34 3 20) ≡ 0x3f111111
 
@@ -176,10 +182,12 @@ unfolding loadOf round toBits
 load-of-five = refl
 
 pub examples : Examples
-unfolding Accepts Refuses then graphDecided onDecided verdictDecided listDecided checkDecided decIdleSometime after stepped decEnds decBegun decFinishes via decWhen decOrNot seek decSome decAll decEach decAmong decSomeSubtask decPlain decFirstSubtask decFirstArrow decLowest decPairAt decLower decSmallestPair decRepeats decOrder decRuns decFree decServed decReady decIdle decStartsEarly decShare Dec·and Dec·not decLe decLt ℕ-discrete timeOf fromOf toOf processorOf startOf endOf put totalWork sum weight bound IsVerdict
+unfolding Accepts Refuses then graphDecided onDecided verdictDecided listDecided checkDecided decIdleSometime after stepped decEnds decBegun decFinishes via decWhen decOrNot seek decSome decAll decEach decAmong decSomeSubtask decPlain decFirstSubtask decFirstArrow decLowest decPairAt decLower decSmallestPair decRepeats decOrder decRuns decFree decServed decReady decIdle decStartsEarly decShare Dec·and Dec·not decLe decLt ℕ-discrete timeOf fromOf toOf processorOf startOf endOf put totalWork sum weight bound sureEnd IsVerdict
 examples =
     let two-fives : HasFigures (5 ∷ 5 ∷ []) [] 2 10 5 15 =
     has-figures (5 ∷ 5 ∷ []) [] (5 ∷ 5 ∷ []) 5 2 10 15 tt 1 (alone 1 (subtaskAt (5 ∷ 5 ∷ []) 1 tt)) refl tt refl refl in
+    let long-last : HasFigures longLast [] 3 10 3 16 =
+    has-figures longLast [] longLast 3 3 10 16 tt 7 (alone 7 (subtaskAt longLast 7 tt)) refl tt refl refl in
     record {
       one = (figuresG 3 58 refl, list-plan-ends timesG arrowsG finishG 12 orderG 3 21 12 tt tt refl refl tt tt tt);
       two = (
@@ -189,12 +197,14 @@ examples =
       three = (figuresG 4 70 refl, list-plan-ends timesG arrowsG finishG 12 orderG 4 24 15 tt tt refl refl tt tt tt);
       four = list-plan-ends timesG fewerG finishG 12 orderG 3 25 16 tt tt refl refl tt tt tt;
       five = (
-        says timesG arrowsG finishG 12 3 20 34 58 (Fits 2) tt (figuresG 3 58 refl) tt (omega arith, refl),
-        says timesG arrowsG finishG 12 3 19 34 58 (Late 1) tt (figuresG 3 58 refl) tt (omega arith, refl),
+        says timesG arrowsG finishG 12 3 20 34 58 (Fits 1) tt (figuresG 3 58 refl) tt (omega arith, refl),
+        says timesG arrowsG finishG 12 3 19 34 58 (Fits 0) tt (figuresG 3 58 refl) tt (omega arith, refl),
+        says timesG arrowsG finishG 12 3 18 34 58 (Late 1) tt (figuresG 3 58 refl) tt (omega arith, refl),
       );
       six = (
         says (5 ∷ 5 ∷ []) [] (5 ∷ 5 ∷ []) 5 2 8 10 15 (Fits 1) tt two-fives tt (omega arith, refl),
-        says (5 ∷ 5 ∷ []) [] (5 ∷ 5 ∷ []) 5 2 7 10 15 (Late 1) tt two-fives tt (omega arith, refl),
+        says (5 ∷ 5 ∷ []) [] (5 ∷ 5 ∷ []) 5 2 7 10 15 (Fits 0) tt two-fives tt (omega arith, refl),
+        says (5 ∷ 5 ∷ []) [] (5 ∷ 5 ∷ []) 5 2 6 10 15 (Late 1) tt two-fives tt (omega arith, refl),
       );
       seven = says (1 ∷ []) [] (1 ∷ []) 1 16 1 1 16 (Fits 0) tt
           (has-figures (1 ∷ []) [] (1 ∷ []) 1 16 1 16 tt 1 (alone 1 (subtaskAt (1 ∷ []) 1 tt)) refl tt refl refl) tt (omega arith, refl);
@@ -208,6 +218,11 @@ examples =
       ten = (
         checked-refused (5 ∷ 5 ∷ []) [] (5 ∷ 5 ∷ []) 5 2 5 (refusalAt 17 0 0) (bothOnOne 0 5) tt tt refl,
         checked-ends (5 ∷ 5 ∷ []) [] (5 ∷ 5 ∷ []) 5 1 5 10 (bothOnOne 0 5) tt tt tt tt,
+      );
+      fourteen = (
+        long-last,
+        list-plan-ends longLast [] longLast 3 (take 8 orderG) 3 13 5 tt tt refl refl tt tt tt,
+        says longLast [] longLast 3 3 5 10 16 (Fits 0) tt long-last tt (omega arith, refl),
       );
       load = load-of-five;
     }

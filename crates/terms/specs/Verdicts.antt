@@ -1,8 +1,8 @@
--- docs/PLANNER.md, "Terms": S, the verdict and the load.
+-- docs/PLANNER.md, "Terms": S, the sure end, the verdict and the load.
 use mathlib.Core.Path.{_≡_}
 use mathlib.Core.Bool.{false}
 use mathlib.Core.List.{List}
-use Prim.Native.Nat.{ℕ, _+_, _-_, _*_, _≤_, _<_}
+use Prim.Native.Nat.{ℕ, _+_, _-_, _*_, _/_, _≤_, _<_}
 use lib.IntN.{pos}
 use lib.Ieee.{Float, fin, binary32, round}
 use Rattle.terms.specs.Paths.{totalWork, IsLongest}
@@ -14,10 +14,14 @@ use Rattle.terms.specs.declared.Figures.{Figures}
 unfoldable pub bound : ℕ → ℕ → ℕ → ℕ
 bound C P M = C + (M - 1) * P
 
--- "fits" when M × D is at least S, with spare M × D − S; otherwise "late", with shortfall S − M × D
+-- the sure end: S / M rounded down
+unfoldable pub sureEnd : ℕ → ℕ → ℕ
+sureEnd S M = S / M
+
+-- "fits" when D is at least the sure end, and the spare is D less the sure end; otherwise "late", and the shortfall is the sure end less D
 unfoldable pub IsVerdict : ℕ → ℕ → ℕ → Verdict → Type 0
-IsVerdict S M D (Fits spare) = (S ≤ M * D) × (spare ≡ M * D - S)
-IsVerdict S M D (Late shortfall) = (M * D < S) × (shortfall ≡ S - M * D)
+IsVerdict S M D (Fits spare) = (sureEnd S M ≤ D) × (spare ≡ D - sureEnd S M)
+IsVerdict S M D (Late shortfall) = (D < sureEnd S M) × (shortfall ≡ sureEnd S M - D)
 
 -- the load: C divided by (M × D), the exact quotient rounded once to a 32-bit float
 unfoldable pub loadOf : ℕ → ℕ → ℕ → Float

@@ -101,7 +101,7 @@ pub struct Figures {
     pub load: f32,
 }
 
-// Fits, with the spare; or late, with the shortfall.
+// Fits, with the spare; or late, with the shortfall; in microseconds.
 pub enum Verdict {
     Fits(u32),
     Late(u32),

@@ -2,14 +2,14 @@
 use mathlib.Core.Path.{_≡_, refl, sym, ap, _∙_}
 use mathlib.Core.Logic.{_≢_, by-cases}
 use mathlib.Core.List.{List}
-use Prim.Native.Nat.{ℕ, suc, _*_, _≤_, _<_}
+use Prim.Native.Nat.{ℕ, suc, _≤_, _<_}
 use native.Mathlib.Nat.{suc-inj}
 use native.Mathlib.Omega.{arith}
 use native.Mathlib.Decide.{decLe, decLt}
 use lib.ListN.{length}
 use Rattle.terms.specs.Graphs.{Among, IsSubtask, timeOf, fromOf, toOf, Precedes, LeadsTo, step, more}
 use Rattle.terms.specs.Paths.{totalWork, PathTo, alone, along, weight, IsLongest}
-use Rattle.terms.specs.Verdicts.{bound}
+use Rattle.terms.specs.Verdicts.{bound, sureEnd}
 use Rattle.terms.specs.Alterations.{Altered}
 use Rattle.theory.specs.Sound.{SoundGraph}
 use Rattle.theory.proofs.Accepted.{from-subtask, to-subtask}
@@ -18,7 +18,7 @@ use Rattle.theory.proofs.Sums.{sum-le}
 use Rattle.theory.proofs.Pigeonhole.{repeats}
 use Rattle.theory.proofs.Work.{total-sum}
 use Rattle.theory.proofs.Paths.{longest-total}
-use Rattle.theory.proofs.Bounds.{bound-altered}
+use Rattle.theory.proofs.Bounds.{sure-end-altered}
 
 module _ {times : List ℕ} {arrows : List (List ℕ)} {M : ℕ} {times′ : List ℕ} {arrows′ : List (List ℕ)} {M′ : ℕ}
     (g : SoundGraph times arrows) (altered : Altered times arrows M times′ arrows′ M′) where
@@ -94,8 +94,8 @@ module _ {times : List ℕ} {arrows : List (List ℕ)} {M : ℕ} {times′ : Lis
       let y : totalWork times′ ≡ sum (length times) (λ i. timeOf times′ (suc i)) = rw (← altered .same) (total-sum times′) in
       omega (arith, total-sum times)
 
-  -- M × D at least S stays so
-  pub still-fits : (P P′ D : ℕ) → 1 ≤ M → IsLongest times arrows P → IsLongest times′ arrows′ P′
-      → bound (totalWork times) P M ≤ M * D → bound (totalWork times′) P′ M′ ≤ M′ * D
-  still-fits P P′ D one l l′ f =
-      bound-altered (totalWork times) P (totalWork times′) P′ M M′ D one (longest-total P g l) total-no-more (longest-no-more P P′ l l′) (altered .wider .low) f
+  -- the sure end gets no later
+  pub end-no-later : (P P′ : ℕ) → 1 ≤ M → IsLongest times arrows P → IsLongest times′ arrows′ P′
+      → sureEnd (bound (totalWork times′) P′ M′) M′ ≤ sureEnd (bound (totalWork times) P M) M
+  end-no-later P P′ one l l′ =
+      sure-end-altered (totalWork times) P (totalWork times′) P′ M M′ one (longest-total P g l) total-no-more (longest-no-more P P′ l l′) (altered .wider .low)

@@ -1,12 +1,12 @@
--- How large C, P and S are, and the laws of S. Assumes nothing.
-use mathlib.Core.Path.{_≡_}
+-- How large C, P and S are, and the laws of S and of the sure end. Assumes nothing.
+use mathlib.Core.Path.{_≡_, ap}
 use mathlib.Core.List.{List}
-use Prim.Native.Nat.{ℕ, zero, suc, _+_, _-_, _*_, _≤_}
-use native.Mathlib.Nat.{mul-le-mul-left, le-of-mul-le-mul-left, le-dest, mul-le-mul}
+use Prim.Native.Nat.{ℕ, zero, suc, _+_, _-_, _*_, _≤_, _<_}
+use native.Mathlib.Nat.{mul-le-mul-left, le-dest, mul-le-mul, lt-mul-div-succ, le-div-iff-mul-le, div-lt-iff-lt-mul}
 use native.Mathlib.Omega.{arith}
 use Rattle.terms.specs.Graphs.{Among, In16Bits}
 use Rattle.terms.specs.Paths.{totalWork, IsLongest}
-use Rattle.terms.specs.Verdicts.{bound}
+use Rattle.terms.specs.Verdicts.{bound, sureEnd}
 use Rattle.theory.specs.Sound.{SoundGraph}
 use Rattle.theory.proofs.Work.{total-small}
 use Rattle.theory.proofs.Paths.{longest-total}
@@ -15,6 +15,14 @@ use Rattle.theory.proofs.Paths.{longest-total}
 pub measured-small : {times : List ℕ} {arrows : List (List ℕ)} (P : ℕ) → SoundGraph times arrows → In16Bits times → IsLongest times arrows P
     → (P ≤ totalWork times) × (totalWork times ≤ 16776960)
 measured-small P g bits l = (longest-total P g l, total-small g bits)
+
+-- on k + 1 processors there are k paths in S
+bound-suc : (C P k : ℕ) → bound C P (suc k) ≡ C + k * P
+unfolding bound
+bound-suc C P k = ap (λ (m : ℕ). C + m * P) (pred-one k)
+  where
+    pred-one : (m : ℕ) → suc m - 1 ≡ m
+    pred-one m = omega arith
 
 -- a longer path makes S no smaller
 pub bound-mono : (C P Q M : ℕ) → P ≤ Q → bound C P M ≤ bound C Q M
@@ -30,20 +38,33 @@ bound-small C P M c p m =
     let x : (M - 1) * P ≤ 15 * 16776960 = mul-le-mul k l in
     omega arith
 
--- where M × D is at least S it stays so for less work, a shorter path and more processors: P ≤ C gives P ≤ D, so each processor more adds no
--- less to M × D than to S
-pub bound-altered : (C P C′ P′ M M′ D : ℕ) → 1 ≤ M → P ≤ C → C′ ≤ C → P′ ≤ P → M ≤ M′ → bound C P M ≤ M * D → bound C′ P′ M′ ≤ M′ * D
-unfolding bound
-bound-altered C P C′ P′ zero M′ D one pc c p m fits = absurd (omega arith)
-bound-altered C P C′ P′ (suc k) zero D one pc c p m fits = absurd (omega arith)
-bound-altered C P C′ P′ (suc k) (suc k′) D one pc c p m fits =
-    let f : C + k * P ≤ suc k * D = rw pred-one at fits in
-    let y : P ≤ D = le-of-mul-le-mul-left {k = suc k} (omega arith) one in
+-- ---- the sure end is the largest E for which M × E is at most S: such an E is at most the sure end, and one more is no such E
+
+sure-end-past : (S M : ℕ) → 1 ≤ M → S < M * (sureEnd S M + 1)
+unfolding sureEnd
+sure-end-past S M one = lt-mul-div-succ S one
+
+pub at-most-sure-end : (S M E : ℕ) → 1 ≤ M → M * E ≤ S → E ≤ sureEnd S M
+unfolding sureEnd
+at-most-sure-end S M E one l = le-div-iff-mul-le one .1 (omega arith)
+
+pub sure-end-at-most : (S M D : ℕ) → 1 ≤ M → S < M * (D + 1) → sureEnd S M ≤ D
+unfolding sureEnd
+sure-end-at-most S M D one l = let x : sureEnd S M < D + 1 = div-lt-iff-lt-mul one .1 (omega arith) in omega arith
+
+-- less work, a shorter path and more processors make it no later: P ≤ C says that it is not before P, so each processor more adds no more to S than
+-- to M × the sure end
+pub sure-end-altered : (C P C′ P′ M M′ : ℕ) → 1 ≤ M → P ≤ C → C′ ≤ C → P′ ≤ P → M ≤ M′ → sureEnd (bound C′ P′ M′) M′ ≤ sureEnd (bound C P M) M
+sure-end-altered C P C′ P′ zero M′ one pc c p m = absurd (omega arith)
+sure-end-altered C P C′ P′ (suc k) zero one pc c p m = absurd (omega arith)
+sure-end-altered C P C′ P′ (suc k) (suc k′) one pc c p m =
+    let S = bound C P (suc k) in
+    let S-is : S ≡ C + k * P = bound-suc C P k in
+    let end = sureEnd S (suc k) in
+    let x = sure-end-past S (suc k) one in
+    let y : P ≤ end = at-most-sure-end S (suc k) P one (omega arith) in
     let d = le-dest m in
     let h : k′ ≡ k + d .0 = omega (arith, d .1) in
-    let z : d .0 * P ≤ d .0 * D = mul-le-mul-left (d .0) y in
+    let z : d .0 * P ≤ d .0 * end = mul-le-mul-left (d .0) y in
     let w : (k + d .0) * P′ ≤ (k + d .0) * P = mul-le-mul-left (k + d .0) p in
-    rw (pred-one, h) (omega arith)
-  where
-    pred-one : (m : ℕ) → suc m - 1 ≡ m
-    pred-one m = omega arith
+    rw h (sure-end-at-most (bound C′ P′ (suc (k + d .0))) (suc (k + d .0)) end (omega arith) (omega (arith, bound-suc C′ P′ (k + d .0))))

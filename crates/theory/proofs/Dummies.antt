@@ -8,7 +8,7 @@ use native.Mathlib.Decide.{decLe}
 use lib.ListN.{length, getD, take, drop, replicate}
 use Rattle.terms.specs.Rows.{Accepted, refusalAt, refusalOf}
 use Rattle.terms.specs.Graphs.{IsSubtask, timeOf}
-use Rattle.terms.specs.Verdicts.{IsVerdict}
+use Rattle.terms.specs.Verdicts.{sureEnd, IsVerdict}
 use Rattle.terms.specs.Plans.{at, notPlaced, processorOf, startOf, endOf, Placed, RunsAt}
 use Rattle.terms.specs.ListRule.{ByRule, IsListPlan}
 use Rattle.terms.specs.Refusals.{timeAndArrowRows, graphRows, verdictRows, listRows, checkRows, writeRows}
@@ -101,22 +101,22 @@ refuses-writing before after r room h =
     let fits : ¬ (length before < length (stgText short [])) = λ l. omega (arith, text-size) in
     not-both (writeRows short [] (length before)) r (accepted-join (graphRows short []) _ short-accepted (fits, tt)) (h .0)
 
--- ---- calls every graph late: the same input, S = 2 and M × D = 2
-
-pub calls-late : (figures : Figures) (shortfall : ℕ) → ¬ IsOutcome short [] 1 2 figures (Judged (Late shortfall))
-unfolding IsOutcome IsVerdict
-calls-late figures shortfall (a, f, v) = omega (arith, v .0, pair-figures 1 1 1 2 figures (omega arith) f .2)
-
--- ---- always says "fits": D = 1, so M × D = 1
-
-pub calls-fits : (figures : Figures) (spare : ℕ) → ¬ IsOutcome short [] 1 1 figures (Judged (Fits spare))
-unfolding IsOutcome IsVerdict
-calls-fits figures spare (a, f, v) = omega (arith, v .0, pair-figures 1 1 1 1 figures (omega arith) f .2)
-
--- ---- makes up C, P or S: times 1 and 2, no arrows, M = 2, D = 3
+-- ---- calls every graph late, or only one whose D is S / M rounded down: times 1 and 2, no arrows, M = 2, D = 2, where S / M is 2 1/2
 
 abbrev pub uneven : List ℕ
 uneven = 1 ∷ 2 ∷ []
+
+pub calls-late : (figures : Figures) (shortfall : ℕ) → ¬ IsOutcome uneven [] 2 2 figures (Judged (Late shortfall))
+unfolding IsOutcome IsVerdict sureEnd
+calls-late figures shortfall (a, f, v) = omega (arith, v .0, pair-figures 1 2 2 2 figures (omega arith) f .2)
+
+-- ---- always says "fits": two times 1, no arrows, M = 1, D = 1
+
+pub calls-fits : (figures : Figures) (spare : ℕ) → ¬ IsOutcome short [] 1 1 figures (Judged (Fits spare))
+unfolding IsOutcome IsVerdict sureEnd
+calls-fits figures spare (a, f, v) = omega (arith, v .0, pair-figures 1 1 1 1 figures (omega arith) f .2)
+
+-- ---- makes up C, P or S: times 1 and 2, no arrows, M = 2, D = 3
 
 pub makes-up-C : (C : ℕ) → IsTotalWork uneven [] (amount.Is C) → C ≡ 3
 unfolding IsTotalWork

@@ -1,4 +1,4 @@
--- Graham's bound: an accepted plan of an accepted graph on M processors ends at some E with M × E ≤ S. Assumes nothing.
+-- Graham's bound: an accepted plan of an accepted graph on M processors ends at some E with M × E ≤ S, so by the sure end. Assumes nothing.
 use mathlib.Core.Path.{_≡_}
 use mathlib.Core.Logic.{inl, inr, ⊎-elim, by-cases, Dec·and}
 use mathlib.Core.List.{List}
@@ -9,7 +9,7 @@ use native.Mathlib.Decide.{decLe, decLt}
 use lib.ListN.{length}
 use Rattle.terms.specs.Graphs.{Among, IsSubtask, timeOf, Precedes}
 use Rattle.terms.specs.Paths.{totalWork, PathTo, alone, along, weight, IsLongest}
-use Rattle.terms.specs.Verdicts.{bound}
+use Rattle.terms.specs.Verdicts.{bound, sureEnd}
 use Rattle.terms.specs.Plans.{startOf, endOf, EndsAt, ReadyAt, FreeAt}
 use Rattle.terms.specs.Replies.{IsChecked}
 use Rattle.terms.specs.declared.Entry.{Entry}
@@ -23,7 +23,7 @@ use Rattle.theory.proofs.Sums.{sum-zero, sum-le, sum-add, sum-const, su
 use Rattle.theory.proofs.Search.{search, LastOrNone, last, strong}
 use Rattle.theory.proofs.Running.{decPrecedes, running, counted, running-sum, free-when-fewer}
 use Rattle.theory.proofs.NoGap.{some-runs}
-use Rattle.theory.proofs.Bounds.{bound-mono}
+use Rattle.theory.proofs.Bounds.{bound-mono, at-most-sure-end}
 
 module _ (times : List ℕ) (arrows : List (List ℕ)) (M : ℕ) (plan : List Entry) (g : SoundGraph times arrows) (a : BusyPlan times arrows M plan) where
   -- where a processor is free at t, a subtask that starts later is held back by a predecessor that ends after t: else it were ready
@@ -128,3 +128,11 @@ pub graham-bound : (times : List ℕ) (arrows : List (List ℕ)) (M : ℕ) (plan
     → M * E ≤ bound (totalWork times) P M
 unfolding IsChecked
 graham-bound times arrows M plan E P c l = let b = busy-plan times arrows M plan (c .0) in graham times arrows M plan (b .0) (b .1) E P (c .1) l
+
+-- and so in whole microseconds: every accepted plan ends at S / M rounded down or before
+pub ends-by-sure-end : (times : List ℕ) (arrows : List (List ℕ)) (M : ℕ) (plan : List Entry) (E P : ℕ) → IsChecked times arrows M plan (Ends E)
+    → IsLongest times arrows P
+    → E ≤ sureEnd (bound (totalWork times) P M) M
+unfolding IsChecked
+ends-by-sure-end times arrows M plan E P c l =
+    at-most-sure-end (bound (totalWork times) P M) M E (busy-plan times arrows M plan (c .0) .1 .sound .processors .low) (graham-bound times arrows M plan E P c l)

@@ -54,5 +54,6 @@ pub mod Alterations
 pub mod Dropping
 pub mod DemandThree
 pub mod OtherVerdicts
+pub mod SureEnds
 pub mod TwoSubtasks
 pub mod Dummies

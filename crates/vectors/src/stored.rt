@@ -62,6 +62,14 @@ fn line_at(output: &[u8], at: usize) -> Line {
     }
 }
 
+// The sure end of the stored S.
+fn sure_end(s: u32, m: u32) -> u32 {
+    if m == 0 {
+        return 0;
+    }
+    s / m
+}
+
 // C, P and S, and the verdict against 1,000 microseconds, which follows from the stored S.
 fn figures_agree(times: &[u16], arrows: &[[u16; 2]], line: Line) -> bool {
     let answer = judge(times, arrows, line.m, 1000);
@@ -75,12 +83,13 @@ fn figures_agree(times: &[u16], arrows: &[[u16; 2]], line: Line) -> bool {
     if figures.s != line.s {
         return false;
     }
+    let end = sure_end(line.s, line.m);
     let outcome = answer.outcome;
     match outcome {
         Outcome::Refused(_) => false,
         Outcome::Judged(verdict) => match verdict {
-            Verdict::Fits(spare) => line.s as u64 + (spare as u64) == line.m as u64 * 1000,
-            Verdict::Late(shortfall) => line.s as u64 == line.m as u64 * 1000 + (shortfall as u64),
+            Verdict::Fits(spare) => end as u64 + (spare as u64) == 1000,
+            Verdict::Late(shortfall) => end as u64 == 1000 + (shortfall as u64),
         },
     }
 }

@@ -1,4 +1,4 @@
-// S, the load, fits or late.
+// S, the sure end, the load, fits or late.
 use graph::measure_on;
 use limits::check_deadline;
 use terms::Answer;
@@ -11,6 +11,7 @@ use terms::Verdict;
 use terms::Weights;
 ghost use mathlib.Core.Path.{_≡_};
 ghost use mathlib.Core.Bool.{false};
+ghost use Prim.Native.Nat.{_/_, _≤_};
 ghost use lib.Ieee.{binary32, round};
 ghost use Rattle.terms.specs.Graphs.{Among};
 ghost use Rattle.terms.specs.Verdicts.{noFigures};
@@ -24,6 +25,14 @@ fn load(work: u32, room: u32) -> f32
     ensures { λ r. ⌜ r ≡ round binary32 false work room ⌝ }
 {
     work as f32 / (room as f32)
+}
+
+// The sure end: S / M rounded down.
+fn sure_end(s: u32, m: u32) -> u32
+    requires { ⌜ 1 ≤ m ⌝ }
+    ensures { λ r. ⌜ r ≡ s / m ⌝ }
+{
+    s / m
 }
 
 // With a refusal all figures are 0, and no verdict is given.
@@ -50,6 +59,7 @@ fn verdict_of(weights: Weights, m: u32, d: u32) -> Answer
     let c = weights.c;
     let p = weights.p;
     let s = c + (m - 1) * p;
+    let end = sure_end(s, m);
     let room = m * d;
     let figures = Figures {
         c,
@@ -57,15 +67,15 @@ fn verdict_of(weights: Weights, m: u32, d: u32) -> Answer
         s,
         load: load(c, room),
     };
-    if s <= room {
+    if end <= d {
         Answer {
             figures,
-            outcome: Outcome::Judged(Verdict::Fits(room - s)),
+            outcome: Outcome::Judged(Verdict::Fits(d - end)),
         }
     } else {
         Answer {
             figures,
-            outcome: Outcome::Judged(Verdict::Late(s - room)),
+            outcome: Outcome::Judged(Verdict::Late(end - d)),
         }
     }
 }

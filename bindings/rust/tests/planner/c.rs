@@ -57,7 +57,7 @@ fn each(prefix: &Path, source: &str, run: impl Fn(Command, &str)) {
 fn example() {
     // graph G on 3 processors, worked by hand
     let expected = "\
-C = 34, P = 12, S = 58, load = 0.567: fits, spare 2
+C = 34, P = 12, S = 58, load = 0.567: fits, spare 1
 subtask 1: processor 1 from 0 to 3
 subtask 2: processor 2 from 0 to 2
 subtask 3: processor 3 from 0 to 2

@@ -93,7 +93,7 @@ fn demand_three() {
         let g = Graph::new(&times, &row);
         let m = random.among(1, 6) as u32;
         let Ok(answer) = g.judge(m, 1) else { continue };
-        let d = answer.bound.div_ceil(m);
+        let d = answer.bound / m;
         if d > zulagbemi::MAX_DEADLINE {
             continue;
         }

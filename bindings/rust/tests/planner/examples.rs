@@ -10,10 +10,12 @@ fn on_g(name: &str, words: &[&str]) -> String {
 #[test]
 fn verdict() {
     let figures = "9 subtasks, 5 arrows\nC = 34, P = 12, S = 58\n";
-    let fits = "load 0.567 on M = 3 with D = 20\nfits: no accepted plan ends after 20; M × D is 2 above S\n";
+    let fits = "load 0.567 on M = 3 with D = 20\nfits, spare 1: no accepted plan ends after 19\n";
     assert_eq!(on_g("verdict", &["3", "20"]), format!("{figures}{fits}"));
-    let late = "load 0.596 on M = 3 with D = 19\nlate: M × D is 1 below S\n";
-    assert_eq!(on_g("verdict", &["3", "19"]), format!("{figures}{late}"));
+    let just = "load 0.596 on M = 3 with D = 19\nfits, spare 0: no accepted plan ends after 19\n";
+    assert_eq!(on_g("verdict", &["3", "19"]), format!("{figures}{just}"));
+    let late = "load 0.630 on M = 3 with D = 18\nlate, short 1: no accepted plan ends after 19\n";
+    assert_eq!(on_g("verdict", &["3", "18"]), format!("{figures}{late}"));
 }
 
 #[test]

@@ -2,10 +2,30 @@
 use mathlib.Core.Path.{refl}
 use native.Mathlib.Omega.{arith}
 use borrow.Author.Needs.{needs}
-use Rattle.terms.specs.Verdicts.{bound, loadOf, IsVerdict}
+use Rattle.terms.specs.Verdicts.{bound, sureEnd, loadOf, IsVerdict}
 use Rattle.verdict.proofs.Figures.{s-small, room-is}
 use Rattle.verdict.proofs.verdict_of.Statement.{statement}
 use Rattle.verdict.proofs.verdict_of.Tie as tie
+
+-- what is answered stands first, so that an edit is refused there: late,
+returns-2 : tie.Need-returns-2
+unfolding bound sureEnd loadOf IsVerdict
+returns-2 c = record {
+  figures-are = rw (c .before .load .ensures) refl;
+  verdict = _;
+  outcome-is = refl;
+  verdict-is = (omega (arith, c .before .before .sure-end .ensures, c .if1 .left), omega (arith, c .before .before .sure-end .ensures));
+}
+
+-- and fits
+returns : tie.Need-returns
+unfolding bound sureEnd loadOf IsVerdict
+returns c = record {
+  figures-are = rw (c .before .load .ensures) refl;
+  verdict = _;
+  outcome-is = refl;
+  verdict-is = (omega (arith, c .before .before .sure-end .ensures, c .if1 .taken), omega (arith, c .before .before .sure-end .ensures));
+}
 
 sub-s : tie.Need-sub-s
 sub-s c = omega (arith, c .pre .processors .low)
@@ -16,32 +36,17 @@ mul-s c = omega (arith, s-small (c .pre))
 add-s : tie.Need-add-s
 add-s c = omega (arith, s-small (c .pre))
 
+sure-end-requires : tie.Need-sure-end-requires
+sure-end-requires c κs = c .pre .processors .low
+
 mul-room : tie.Need-mul-room
-mul-room c = omega (arith, room-is (c .pre) .high)
+mul-room c = omega (arith, room-is (c .before .pre) .high)
 
 load-requires : tie.Need-load-requires
-load-requires c κs = (c .pre .work, room-is (c .pre))
+load-requires c κs = (c .before .pre .work, room-is (c .before .pre))
 
-sub-t17 : tie.Need-sub-t17
-sub-t17 c = search needs
-
-returns : tie.Need-returns
-unfolding bound loadOf IsVerdict
-returns c = record {
-  figures-are = rw (c .before .load .ensures) refl;
-  verdict = _;
-  outcome-is = refl;
-  verdict-is = (omega (arith, c .if1 .taken), refl);
-}
-
-returns-2 : tie.Need-returns-2
-unfolding bound loadOf IsVerdict
-returns-2 c = record {
-  figures-are = rw (c .before .load .ensures) refl;
-  verdict = _;
-  outcome-is = refl;
-  verdict-is = (omega (arith, c .if1 .left), refl);
-}
+sub-t18 : tie.Need-sub-t18
+sub-t18 c = search needs
 
 pub verdict-of-spec : {M : Type 1} → statement M
-verdict-of-spec = tie.close (tie.spec sub-s mul-s add-s mul-room load-requires sub-t17 returns returns-2)
+verdict-of-spec = tie.close (tie.spec sub-s mul-s add-s sure-end-requires mul-room load-requires sub-t18 returns returns-2)

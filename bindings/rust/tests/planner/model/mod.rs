@@ -116,7 +116,8 @@ pub fn judge(times: &[u16], arrows: &[[u16; 2]], m: u32, d: u32) -> Reply<Answer
         return Err(bare(9));
     }
     let s = c + (m - 1) * p;
-    let verdict = if m * d >= s { Ok(m * d - s) } else { Err(s - m * d) };
+    let end = s / m;
+    let verdict = if d >= end { Ok(d - end) } else { Err(end - d) };
     // rounded once: a quotient of whole numbers below 2^24 goes to f64 with far more digits than f32 keeps,
     // and cannot lie so near the middle of two floats that the second rounding would matter
     let load = (f64::from(c) / f64::from(m * d)) as f32;
