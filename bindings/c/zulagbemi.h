@@ -28,9 +28,9 @@
 extern "C" {
 #endif
 
-#define ZUL_VERSION "0.4.0"
+#define ZUL_VERSION "0.5.0"
 #define ZUL_VERSION_MAJOR 0
-#define ZUL_VERSION_MINOR 4
+#define ZUL_VERSION_MINOR 5
 #define ZUL_VERSION_PATCH 0
 
 /* The limits ("Numbers"). */
@@ -42,6 +42,9 @@ extern "C" {
 #define ZUL_MAX_START 16776960   /* microseconds; also the largest total work */
 #define ZUL_MAX_TEXT 60000       /* bytes of an STG text */
 #define ZUL_MAX_WRITTEN 12422    /* bytes of an STG text that zul_write_stg writes */
+#define ZUL_MAX_NEST 256         /* entries of a nest */
+#define ZUL_MAX_MEMBERS 16       /* of a sequence or a group; each has at least 1 */
+#define ZUL_MAX_OPENERS 8        /* sequences and groups inside one another */
 
 /* The numbers of refusal ("Numbers of refusal": who asks which, in which order, and what its place is). More may be added.
  * begin: bindings/refusals.sh, from refusals.txt */
@@ -68,7 +71,10 @@ typedef enum {
     ZUL_REFUSED_FIRST_LINE        = 21, /* the first line is not one number 1 to 256 */
     ZUL_REFUSED_TASK_LINE         = 22, /* a task line is missing or misshapen, or something stands after the last one */
     ZUL_REFUSED_DUMMY_LINE        = 23, /* line 0 or line n+1 is not a proper dummy */
-    ZUL_REFUSED_TIME_LARGE        = 24  /* a time is above 65,535 */
+    ZUL_REFUSED_TIME_LARGE        = 24, /* a time is above 65,535 */
+    ZUL_REFUSED_JOINED_SUBTASKS   = 30, /* the joined graph has more than 256 subtasks */
+    ZUL_REFUSED_JOINED_ARROWS     = 31, /* the joined graph has more than 2,048 arrows */
+    ZUL_REFUSED_NEST              = 32  /* the row is not the writing of a nest */
 } zul_refusal;
 
 /* What a number means, as one line of text. It stands here and not in the archive, which holds proved code alone. */
@@ -97,6 +103,9 @@ static inline const char *zul_meaning(uint32_t number) {
         case ZUL_REFUSED_TASK_LINE: return "a task line is missing or misshapen, or something stands after the last one";
         case ZUL_REFUSED_DUMMY_LINE: return "line 0 or line n+1 is not a proper dummy";
         case ZUL_REFUSED_TIME_LARGE: return "a time is above 65,535";
+        case ZUL_REFUSED_JOINED_SUBTASKS: return "the joined graph has more than 256 subtasks";
+        case ZUL_REFUSED_JOINED_ARROWS: return "the joined graph has more than 2,048 arrows";
+        case ZUL_REFUSED_NEST: return "the row is not the writing of a nest";
         default: return "a number that is not in the table";
     }
 }
@@ -146,8 +155,15 @@ typedef struct { uint16_t from, to; } zul_arrow;
 /* What a plan holds for one subtask: its processor, from 1 on, and its start. It ends at start + time. */
 typedef struct { uint8_t processor; uint32_t start; } zul_entry;
 
+/* An entry of a nest ("Nests"): a graph with its C and P; or an opener, for which c is its count of members and p is 0. */
+typedef enum { ZUL_GRAPH = 0, ZUL_SEQUENCE = 1, ZUL_GROUP = 2 } zul_nest_kind;
+typedef struct { uint32_t kind, c, p; } zul_nest_entry;
+
 /* C or P. */
 typedef struct { uint32_t number, place, second, value; } zul_amount;
+
+/* C and P. */
+typedef struct { uint32_t number, place, second, c, p; } zul_measure;
 
 /* C (total work), P (longest path), S = C + (m - 1) * P, the load C / (m * d) rounded once. No accepted plan ends after
  * S / m rounded down. Where fits is 1, d is not below that, and the margin is the spare d - S / m; where it is 0 the
@@ -157,7 +173,7 @@ typedef struct { uint32_t number, place, second, c, p, s; float load; uint32_t f
 /* Where a plan ends. */
 typedef struct { uint32_t number, place, second, end; } zul_plan_end;
 
-/* How many subtasks and arrows a text has. */
+/* How many subtasks and arrows a text or a joined graph has. */
 typedef struct { uint32_t number, place, second, subtasks, arrows; } zul_counts;
 
 /* How many bytes were written. */
@@ -173,7 +189,9 @@ typedef struct { uint32_t number, place, second, bytes; } zul_written;
 ZUL_LAYOUT(sizeof(size_t) == 8);
 ZUL_LAYOUT(sizeof(zul_arrow) == 4 && offsetof(zul_arrow, to) == 2);
 ZUL_LAYOUT(sizeof(zul_entry) == 8 && offsetof(zul_entry, start) == 4);
+ZUL_LAYOUT(sizeof(zul_nest_entry) == 12 && offsetof(zul_nest_entry, c) == 4 && offsetof(zul_nest_entry, p) == 8);
 ZUL_LAYOUT(sizeof(zul_amount) == 16 && offsetof(zul_amount, value) == 12);
+ZUL_LAYOUT(sizeof(zul_measure) == 20 && offsetof(zul_measure, p) == 16);
 ZUL_LAYOUT(sizeof(zul_answer) == 36 && offsetof(zul_answer, load) == 24 && offsetof(zul_answer, margin) == 32);
 ZUL_LAYOUT(sizeof(zul_plan_end) == 16 && offsetof(zul_plan_end, end) == 12);
 ZUL_LAYOUT(sizeof(zul_counts) == 20 && offsetof(zul_counts, arrows) == 16);
@@ -213,6 +231,26 @@ zul_counts zul_read_stg(const uint8_t *text, size_t len, uint16_t *times, size_t
  * with a refusal all do. */
 zul_written zul_write_stg(const uint16_t *times, size_t n, const zul_arrow *arrows, size_t arrows_len, uint8_t *text,
                           size_t text_len);
+
+/* Joins two graphs end to end ("Joins"): the second's numbers follow the first's, and each subtask of the first without
+ * successors gets an arrow to each of the second without predecessors. The joined graph is written to the front of the two
+ * rows, its arrows by `from` and then by `to`; the reply says how many times and arrows it has. What lies past them stays
+ * as it was; with a refusal both rows do. Asks 1 to 7 of the first graph, 1 to 7 of the second, 30, 31, then 11 where a
+ * row is too short. */
+zul_counts zul_end_to_end(const uint16_t *first_times, size_t first_n, const zul_arrow *first_arrows,
+                          size_t first_arrows_len, const uint16_t *second_times, size_t second_n,
+                          const zul_arrow *second_arrows, size_t second_arrows_len, uint16_t *times, size_t times_len,
+                          zul_arrow *arrows, size_t arrows_len);
+
+/* Joins two graphs side by side: the same without the arrows from one to the other. */
+zul_counts zul_side_by_side(const uint16_t *first_times, size_t first_n, const zul_arrow *first_arrows,
+                            size_t first_arrows_len, const uint16_t *second_times, size_t second_n,
+                            const zul_arrow *second_arrows, size_t second_arrows_len, uint16_t *times, size_t times_len,
+                            zul_arrow *arrows, size_t arrows_len);
+
+/* C and P of a nest ("Nests"): sequences, whose members are joined end to end, and groups, whose members are joined side
+ * by side, written in one row with each opener before its members. Asks 32 alone. */
+zul_measure zul_nest(const zul_nest_entry *row, size_t len);
 
 #ifdef __cplusplus
 }

@@ -31,6 +31,9 @@ static void no_graph(void) {
     expect("plan check of nothing", zul_check_plan(NULL, 0, NULL, 0, 1, NULL, 0).number, ZUL_REFUSED_SUBTASK_COUNT);
     expect("no text, no rows", zul_read_stg(NULL, 0, NULL, 0, NULL, 0).number, ZUL_REFUSED_ROOM);
     expect("nothing to write", zul_write_stg(NULL, 0, NULL, 0, NULL, 0).number, ZUL_REFUSED_SUBTASK_COUNT);
+    expect("nothing to join", zul_end_to_end(NULL, 0, NULL, 0, NULL, 0, NULL, 0, NULL, 0, NULL, 0).number, ZUL_REFUSED_SUBTASK_COUNT);
+    expect("nothing beside", zul_side_by_side(three, 1, NULL, 0, NULL, 0, NULL, 0, NULL, 0, NULL, 0).number, ZUL_REFUSED_SUBTASK_COUNT);
+    expect("no nest", zul_nest(NULL, 0).number, ZUL_REFUSED_NEST);
 }
 
 static void no_arrows(void) {
@@ -49,6 +52,7 @@ static void no_row(void) {
     expect("no times", zul_read_stg(NULL, 0, NULL, 0, arrows, ZUL_MAX_ARROWS).number, ZUL_REFUSED_ROOM);
     expect("no arrows row", zul_read_stg(NULL, 0, times, ZUL_MAX_SUBTASKS, NULL, 0).number, ZUL_REFUSED_ROOM);
     expect("no room to write", zul_write_stg(three, 1, NULL, 0, NULL, 0).number, ZUL_REFUSED_ROOM);
+    expect("no rows to join into", zul_side_by_side(three, 1, NULL, 0, three, 1, NULL, 0, NULL, 0, NULL, 0).number, ZUL_REFUSED_ROOM);
 }
 
 /* The whole text and the byte behind it; and a room that is a byte too short, left as it was. */
@@ -60,6 +64,38 @@ static void one_text(void) {
     expect("the room as it was", memcmp(room, untouched, sizeof room - 2) == 0, 1);
     expect("bytes written", zul_write_stg(three, 1, NULL, 0, room, sizeof room).bytes, sizeof room - 1);
     expect("the text", memcmp(room, expected, sizeof room) == 0, 1);
+}
+
+/* Two graphs of one subtask, joined in both ways: what is written, what lies past it, and rows that are too short. */
+static void two_joined(void) {
+    uint16_t joined[3] = {7, 7, 7};
+    zul_arrow links[2] = {{7, 7}, {7, 7}};
+    zul_counts counts = zul_end_to_end(three, 1, NULL, 0, three, 1, NULL, 0, joined, 1, links, 2);
+    EXPECT_REPLY("one time too few", counts, ZUL_REFUSED_ROOM, 0, 0);
+    counts = zul_end_to_end(three, 1, NULL, 0, three, 1, NULL, 0, joined, 3, NULL, 0);
+    EXPECT_REPLY("one arrow too few", counts, ZUL_REFUSED_ROOM, 0, 0);
+    expect("no counts", counts.subtasks | counts.arrows, 0);
+    expect("the rows as they were", joined[0] == 7 && joined[2] == 7 && links[0].from == 7, 1);
+    counts = zul_side_by_side(three, 1, NULL, 0, three, 1, NULL, 0, joined, 3, links, 2);
+    EXPECT_REPLY("side by side", counts, ZUL_OK, 0, 0);
+    expect("two times", counts.subtasks == 2 && joined[0] == 3 && joined[1] == 3 && joined[2] == 7, 1);
+    expect("no arrow", counts.arrows == 0 && links[0].from == 7, 1);
+    counts = zul_end_to_end(three, 1, NULL, 0, three, 1, NULL, 0, joined, 3, links, 2);
+    EXPECT_REPLY("end to end", counts, ZUL_OK, 0, 0);
+    expect("one arrow", counts.arrows == 1 && links[0].from == 1 && links[0].to == 2 && links[1].from == 7, 1);
+}
+
+/* A sequence of a graph and a group of two; and the same with an entry left over. */
+static void one_nest(void) {
+    static const zul_nest_entry row[6] = {{ZUL_SEQUENCE, 2, 0}, {ZUL_GRAPH, 5, 3}, {ZUL_GROUP, 2, 0},
+                                          {ZUL_GRAPH, 4, 4},    {ZUL_GRAPH, 6, 2}, {ZUL_GRAPH, 1, 1}};
+    zul_measure figures = zul_nest(row, 5);
+    EXPECT_REPLY("a nest", figures, ZUL_OK, 0, 0);
+    expect("C of a nest", figures.c, 15);
+    expect("P of a nest", figures.p, 7);
+    figures = zul_nest(row, 6);
+    EXPECT_REPLY("an entry left over", figures, ZUL_REFUSED_NEST, 0, 0);
+    expect("no figures of a nest", figures.c | figures.p, 0);
 }
 
 /* Where it is wrong, in every kind of reply; what stands after it is 0. */
@@ -84,6 +120,10 @@ static void places(void) {
     zul_written written = zul_write_stg(longer, 3, twice, 3, NULL, 0);
     EXPECT_REPLY("nothing to write", written, ZUL_REFUSED_ARROW_TWICE, 3, 0);
     expect("no bytes", written.bytes, 0);
+    counts = zul_end_to_end(three, 1, NULL, 0, longer, 3, cycle, 3, NULL, 0, NULL, 0);
+    EXPECT_REPLY("a cycle in the second", counts, ZUL_REFUSED_CYCLE, 2, 0);
+    counts = zul_side_by_side(longer, 3, twice, 3, longer, 3, cycle, 3, NULL, 0, NULL, 0);
+    EXPECT_REPLY("the first before the second", counts, ZUL_REFUSED_ARROW_TWICE, 3, 0);
 }
 
 /* What is accepted has no place. */
@@ -121,6 +161,8 @@ int main(int argc, char **argv) {
     no_arrows();
     no_row();
     one_text();
+    two_joined();
+    one_nest();
     places();
     no_place();
     cut();

@@ -195,4 +195,74 @@ impl<'a> Graph<'a> {
         };
         r.refusal.or(r.end)
     }
+
+    /// Joins this graph and a second one end to end (`docs/PLANNER.md`, "Joins") into two lent rows, and answers the graph in
+    /// them: the second's numbers follow this one's, and each subtask of this one without successors gets an arrow to each
+    /// of the second without predecessors. The arrows come by `from` and then by `to`. What lies past the joined graph stays
+    /// as it was; with a refusal both rows do.
+    ///
+    /// ```
+    /// use zulagbemi::{Arrow, Graph};
+    /// let (mut times, mut arrows) = ([0; 4], [Arrow::default(); 4]);
+    /// let (first, arrow) = (Graph::new(&[3, 4], &[]), [Arrow::new(1, 2)]);
+    /// let joined = first.end_to_end(Graph::new(&[5, 6], &arrow), &mut times, &mut arrows)?;
+    /// assert_eq!(joined, Graph::new(&[3, 4, 5, 6], &[Arrow::new(1, 3), Arrow::new(2, 3), Arrow::new(3, 4)]));
+    /// # Ok::<(), zulagbemi::Refusal>(())
+    /// ```
+    pub fn end_to_end<'b>(
+        self,
+        second: Graph<'_>,
+        times: &'b mut [u16],
+        arrows: &'b mut [Arrow],
+    ) -> Result<Graph<'b>, Refusal> {
+        self.joined(linked::zul_end_to_end, second, times, arrows)
+    }
+
+    /// Joins this graph and a second one side by side: as [`end_to_end`](Self::end_to_end), without the arrows from one to
+    /// the other.
+    ///
+    /// ```
+    /// use zulagbemi::{Arrow, Graph};
+    /// let (mut times, mut arrows) = ([0; 4], [Arrow::default(); 4]);
+    /// let (first, arrow) = (Graph::new(&[3, 4], &[]), [Arrow::new(1, 2)]);
+    /// let joined = first.side_by_side(Graph::new(&[5, 6], &arrow), &mut times, &mut arrows)?;
+    /// assert_eq!(joined, Graph::new(&[3, 4, 5, 6], &[Arrow::new(3, 4)]));
+    /// # Ok::<(), zulagbemi::Refusal>(())
+    /// ```
+    pub fn side_by_side<'b>(
+        self,
+        second: Graph<'_>,
+        times: &'b mut [u16],
+        arrows: &'b mut [Arrow],
+    ) -> Result<Graph<'b>, Refusal> {
+        self.joined(linked::zul_side_by_side, second, times, arrows)
+    }
+
+    /// The graph that one of the two joins leaves in the lent rows.
+    fn joined<'b>(
+        self,
+        join: linked::Join,
+        second: Graph<'_>,
+        times: &'b mut [u16],
+        arrows: &'b mut [Arrow],
+    ) -> Result<Graph<'b>, Refusal> {
+        // SAFETY: each pointer is a slice's, beside that slice's length; the two rows are borrowed for this call alone.
+        let r = unsafe {
+            join(
+                self.times.as_ptr(),
+                self.times.len(),
+                self.arrows.as_ptr(),
+                self.arrows.len(),
+                second.times.as_ptr(),
+                second.times.len(),
+                second.arrows.as_ptr(),
+                second.arrows.len(),
+                times.as_mut_ptr(),
+                times.len(),
+                arrows.as_mut_ptr(),
+                arrows.len(),
+            )
+        };
+        r.refusal.or(Graph::new(&times[..r.subtasks as usize], &arrows[..r.arrows as usize]))
+    }
 }

@@ -38,12 +38,14 @@ extern crate alloc;
 
 mod graph;
 mod linked;
+mod nest;
 #[rustfmt::skip] // bindings/refusals.sh lays it out
 mod reason;
 mod refusal;
 mod values;
 
 pub use graph::Graph;
+pub use nest::{nest_figures, Members, NestEntry, Weights};
 pub use reason::Reason;
 pub use refusal::Refusal;
 pub use values::{Answer, Arrow, Entry, Verdict};
@@ -64,3 +66,9 @@ pub const MAX_START: u32 = 16_776_960;
 pub const MAX_TEXT: usize = 60_000;
 /// An STG text that [`Graph::write_stg`] writes has at most 12,422 bytes.
 pub const MAX_WRITTEN: usize = 12_422;
+/// A nest has at most 256 entries.
+pub const MAX_NEST: usize = 256;
+/// A sequence or a group has 1 to 16 members.
+pub const MAX_MEMBERS: u32 = 16;
+/// At most eight sequences and groups of a nest stand inside one another.
+pub const MAX_OPENERS: u32 = 8;

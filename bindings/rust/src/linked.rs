@@ -1,13 +1,20 @@
 //! The functions of the archive as they are linked, and the records that they reply with, each of which begins with a
 //! refusal. Their declarations in C are `bindings/c/zulagbemi.h`; the two are held to the same layouts.
 
-use crate::{Arrow, Entry, Refusal};
+use crate::{Arrow, Entry, NestEntry, Refusal};
 use core::mem::{align_of, offset_of, size_of};
 
 #[repr(C)]
 pub struct Amount {
     pub refusal: Refusal,
     pub value: u32,
+}
+
+#[repr(C)]
+pub struct Measure {
+    pub refusal: Refusal,
+    pub c: u32,
+    pub p: u32,
 }
 
 #[repr(C)]
@@ -47,8 +54,25 @@ const _: () = {
     assert!(size_of::<Refusal>() == 12 && offset_of!(Refusal, place) == 4 && offset_of!(Refusal, second) == 8);
     assert!(size_of::<Answer>() == 36 && offset_of!(Answer, load) == 24 && offset_of!(Answer, margin) == 32);
     assert!(size_of::<Amount>() == 16 && size_of::<PlanEnd>() == 16 && size_of::<Counts>() == 20);
-    assert!(size_of::<Written>() == 16);
+    assert!(size_of::<Written>() == 16 && size_of::<Measure>() == 20);
+    assert!(size_of::<NestEntry>() == 12 && align_of::<NestEntry>() == 4);
 };
+
+/// A join of two graphs into two lent rows.
+pub type Join = unsafe extern "C" fn(
+    *const u16,
+    usize,
+    *const Arrow,
+    usize,
+    *const u16,
+    usize,
+    *const Arrow,
+    usize,
+    *mut u16,
+    usize,
+    *mut Arrow,
+    usize,
+) -> Counts;
 
 extern "C" {
     pub fn zul_total_work(times: *const u16, n: usize, arrows: *const Arrow, arrows_len: usize) -> Amount;
@@ -90,4 +114,33 @@ extern "C" {
         text: *mut u8,
         text_len: usize,
     ) -> Written;
+    pub fn zul_end_to_end(
+        first_times: *const u16,
+        first_n: usize,
+        first_arrows: *const Arrow,
+        first_arrows_len: usize,
+        second_times: *const u16,
+        second_n: usize,
+        second_arrows: *const Arrow,
+        second_arrows_len: usize,
+        times: *mut u16,
+        times_len: usize,
+        arrows: *mut Arrow,
+        arrows_len: usize,
+    ) -> Counts;
+    pub fn zul_side_by_side(
+        first_times: *const u16,
+        first_n: usize,
+        first_arrows: *const Arrow,
+        first_arrows_len: usize,
+        second_times: *const u16,
+        second_n: usize,
+        second_arrows: *const Arrow,
+        second_arrows_len: usize,
+        times: *mut u16,
+        times_len: usize,
+        arrows: *mut Arrow,
+        arrows_len: usize,
+    ) -> Counts;
+    pub fn zul_nest(row: *const NestEntry, len: usize) -> Measure;
 }

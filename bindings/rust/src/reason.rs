@@ -50,6 +50,12 @@ pub enum Reason {
     DummyLine,
     /// 24: a time is above 65,535.
     TimeLarge,
+    /// 30: the joined graph has more than 256 subtasks.
+    JoinedSubtasks,
+    /// 31: the joined graph has more than 2,048 arrows.
+    JoinedArrows,
+    /// 32: the row is not the writing of a nest.
+    Nest,
     /// Any other number: a number that is not in the table.
     Unlisted,
 }
@@ -81,6 +87,9 @@ impl Reason {
             22 => Self::TaskLine,
             23 => Self::DummyLine,
             24 => Self::TimeLarge,
+            30 => Self::JoinedSubtasks,
+            31 => Self::JoinedArrows,
+            32 => Self::Nest,
             _ => Self::Unlisted,
         }
     }
@@ -111,6 +120,9 @@ impl Reason {
             Self::TaskLine => "a task line is missing or misshapen, or something stands after the last one",
             Self::DummyLine => "line 0 or line n+1 is not a proper dummy",
             Self::TimeLarge => "a time is above 65,535",
+            Self::JoinedSubtasks => "the joined graph has more than 256 subtasks",
+            Self::JoinedArrows => "the joined graph has more than 2,048 arrows",
+            Self::Nest => "the row is not the writing of a nest",
             Self::Unlisted => "a number that is not in the table",
         }
     }

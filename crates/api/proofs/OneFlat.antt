@@ -2,12 +2,15 @@
 use mathlib.Core.Path.{_≡_, sym, ap, _∙_}
 use mathlib.Core.List.{List}
 use Prim.Native.Nat.{ℕ}
-use Rattle.terms.specs.Replies.{IsTotalWork, IsLongestPath, IsAnswer, IsChecked, IsListed, IsWritten}
+use Rattle.terms.specs.Joins.{Graph}
+use Rattle.terms.specs.Replies.{IsTotalWork, IsLongestPath, IsAnswer, IsChecked, IsListed, IsWritten, IsJoined, IsNestMeasure}
 use Rattle.terms.specs.Readings.{IsRead}
 use Rattle.terms.specs.declared.Entry.{Entry}
 use Rattle.theory.proofs.OneReply as one
-use Rattle.api.specs.Flats.{Flattens, flatAmount, flatAnswer, flatEnd, flatCounts, flatWritten}
+use Rattle.theory.proofs.OneNest.{one-nest-measure}
+use Rattle.api.specs.Flats.{Flattens, flatAmount, flatMeasure, flatAnswer, flatEnd, flatCounts, flatWritten}
 use Rattle.api.specs.declared.FlatAmount.{FlatAmount}
+use Rattle.api.specs.declared.FlatMeasure.{FlatMeasure}
 use Rattle.api.specs.declared.FlatAnswer.{FlatAnswer}
 use Rattle.api.specs.declared.FlatEnd.{FlatEnd}
 use Rattle.api.specs.declared.FlatCounts.{FlatCounts}
@@ -55,3 +58,14 @@ pub one-read : (timesRoom arrowsRoom : ℕ) (text timesRow timesRow′ : List �
 one-read timesRoom arrowsRoom text timesRow timesRow′ arrowsRow arrowsRow′ r s p q =
     let same = one.one-read timesRoom arrowsRoom text timesRow timesRow′ arrowsRow arrowsRow′ (p .reply) (q .reply) (p .is) (q .is) in
     (one-form flatCounts r s p q (same .0), same .1, same .2)
+
+pub one-joined : (a b g : Graph) (times₀ times times′ : List ℕ) (arrows₀ arrows arrows′ : List (List ℕ)) (r s : FlatCounts)
+    → Flattens (IsJoined a b g times₀ arrows₀ times arrows) flatCounts r
+    → Flattens (IsJoined a b g times₀ arrows₀ times′ arrows′) flatCounts s
+    → (r ≡ s) × (times ≡ times′) × (arrows ≡ arrows′)
+one-joined a b g times₀ times times′ arrows₀ arrows arrows′ r s p q =
+    let same = one.one-joined a b g times₀ times times′ arrows₀ arrows arrows′ (p .reply) (q .reply) (p .is) (q .is) in
+    (one-form flatCounts r s p q (same .0), same .1, same .2)
+
+pub one-nest : (row : List (List ℕ)) (r s : FlatMeasure) → Flattens (IsNestMeasure row) flatMeasure r → Flattens (IsNestMeasure row) flatMeasure s → r ≡ s
+one-nest row r s p q = one-form flatMeasure r s p q (one-nest-measure row (p .reply) (q .reply) (p .is) (q .is))

@@ -7,6 +7,8 @@ use lib.IntN.{pos}
 use lib.Ieee.{fin}
 use Rattle.terms.specs.declared.Amount.{Amount}
 use Rattle.terms.specs.declared.Amount.the-variants as amount
+use Rattle.terms.specs.declared.Measure.{Measure}
+use Rattle.terms.specs.declared.Measure.the-variants as measure
 use Rattle.terms.specs.declared.Figures.{Figures}
 use Rattle.terms.specs.declared.Verdict.the-variants as verdict
 use Rattle.terms.specs.declared.Outcome.{Outcome}
@@ -21,6 +23,7 @@ use Rattle.terms.specs.declared.Written.the-variants as written
 use Rattle.terms.specs.declared.Refusal.{Refusal}
 use Rattle.api.specs.declared.FlatRefusal.{FlatRefusal}
 use Rattle.api.specs.declared.FlatAmount.{FlatAmount}
+use Rattle.api.specs.declared.FlatMeasure.{FlatMeasure}
 use Rattle.api.specs.declared.FlatAnswer.{FlatAnswer}
 use Rattle.api.specs.declared.FlatEnd.{FlatEnd}
 use Rattle.api.specs.declared.FlatCounts.{FlatCounts}
@@ -41,6 +44,10 @@ flatRefusal refusal = record { number = refusal .number; place = refusal .place;
 abbrev pub flatAmount : Amount → FlatAmount
 flatAmount (amount.Is value) = record { refusal = flatSuccess; value = value }
 flatAmount (amount.Refused refusal) = record { refusal = flatRefusal refusal; value = 0 }
+
+abbrev pub flatMeasure : Measure → FlatMeasure
+flatMeasure (measure.Is weights) = record { refusal = flatSuccess; c = weights .c; p = weights .p }
+flatMeasure (measure.Refused refusal) = record { refusal = flatRefusal refusal; c = 0; p = 0 }
 
 -- fits 1: the margin is the spare; fits 0: it is the shortfall
 abbrev pub flatJudged : Figures → ℕ → ℕ → FlatAnswer

@@ -3,19 +3,21 @@ use crate::FlatAmount;
 use crate::FlatAnswer;
 use crate::FlatCounts;
 use crate::FlatEnd;
+use crate::FlatMeasure;
 use crate::FlatRefusal;
 use crate::FlatWritten;
 use terms::Amount;
 use terms::Answer;
 use terms::Counts;
 use terms::Figures;
+use terms::Measure;
 use terms::Outcome;
 use terms::PlanEnd;
 use terms::Refusal;
 use terms::Verdict;
 use terms::Written;
 ghost use mathlib.Core.Path.{_≡_};
-ghost use Rattle.api.specs.Flats.{InRange, IsShort, flatSuccess, flatRefusal, flatAmount, flatJudged, flatAnswer, flatEnd, flatCounts, flatWritten};
+ghost use Rattle.api.specs.Flats.{InRange, IsShort, flatSuccess, flatRefusal, flatAmount, flatMeasure, flatJudged, flatAnswer, flatEnd, flatCounts, flatWritten};
 
 // Success.
 fn flat_success() -> FlatRefusal
@@ -49,6 +51,23 @@ pub fn flatten_amount(reply: Amount) -> FlatAmount
         Amount::Refused(refusal) => FlatAmount {
             refusal: flatten_refusal(refusal),
             value: 0,
+        },
+    }
+}
+
+pub fn flatten_measure(reply: Measure) -> FlatMeasure
+    ensures { λ r. ⌜ r ≡ flatMeasure reply ⌝ }
+{
+    match reply {
+        Measure::Is(weights) => FlatMeasure {
+            refusal: flat_success(),
+            c: weights.c,
+            p: weights.p,
+        },
+        Measure::Refused(refusal) => FlatMeasure {
+            refusal: flatten_refusal(refusal),
+            c: 0,
+            p: 0,
         },
     }
 }

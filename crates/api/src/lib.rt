@@ -6,9 +6,13 @@ use crate::flats::flatten_amount;
 use crate::flats::flatten_answer;
 use crate::flats::flatten_counts;
 use crate::flats::flatten_end;
+use crate::flats::flatten_measure;
 use crate::flats::flatten_written;
 use graph::longest_path;
 use graph::total_work;
+use joins::end_to_end;
+use joins::nest_figures;
+use joins::side_by_side;
 use plans::check_plan;
 use plans::list_plan;
 use stg::read_stg;
@@ -16,9 +20,10 @@ use stg::write_stg;
 use terms::Entry;
 use verdict::judge;
 ghost use lib.ListN.{length};
-ghost use Rattle.terms.specs.Replies.{IsTotalWork, IsLongestPath, IsAnswer, IsListed, IsChecked, IsWritten};
+ghost use Rattle.terms.specs.Joins.{graphOf, endToEnd, sideBySide};
+ghost use Rattle.terms.specs.Replies.{IsTotalWork, IsLongestPath, IsAnswer, IsListed, IsChecked, IsWritten, IsJoin, IsNestMeasure};
 ghost use Rattle.terms.specs.Readings.{IsRead};
-ghost use Rattle.api.specs.Flats.{Flattens, flatAmount, flatAnswer, flatEnd, flatCounts, flatWritten};
+ghost use Rattle.api.specs.Flats.{Flattens, flatAmount, flatMeasure, flatAnswer, flatEnd, flatCounts, flatWritten};
 
 // Why a call was refused: its number, its place and its second number.
 #[repr(C)]
@@ -33,6 +38,14 @@ pub struct FlatRefusal {
 pub struct FlatAmount {
     pub refusal: FlatRefusal,
     pub value: u32,
+}
+
+// C and P.
+#[repr(C)]
+pub struct FlatMeasure {
+    pub refusal: FlatRefusal,
+    pub c: u32,
+    pub p: u32,
 }
 
 // C, P, S and the load; fits 1: the margin is the spare, fits 0: it is the shortfall, in microseconds.
@@ -54,7 +67,7 @@ pub struct FlatEnd {
     pub end: u32,
 }
 
-// How many subtasks and arrows a text has.
+// How many subtasks and arrows a text or a joined graph has.
 #[repr(C)]
 pub struct FlatCounts {
     pub refusal: FlatRefusal,
@@ -138,4 +151,60 @@ pub extern "C" fn zul_write_stg(times: &[u16], arrows: &[[u16; 2]], text: &mut [
     ensures { λ r. ⌜ Flattens (IsWritten (now (times .entry)) (now (arrows .entry)) (now (text .entry)) (now (text .exit))) flatWritten r ⌝ }
 {
     flatten_written(write_stg(times, arrows, text))
+}
+
+// Writes two graphs joined end to end to the front of the two rows, and answers how many times and arrows; or leaves the rows as they were.
+#[no_mangle]
+pub extern "C" fn zul_end_to_end(
+    first_times: &[u16],
+    first_arrows: &[[u16; 2]],
+    second_times: &[u16],
+    second_arrows: &[[u16; 2]],
+    times: &mut [u16],
+    arrows: &mut [[u16; 2]],
+) -> FlatCounts
+    ensures { λ r. ⌜ Flattens (IsJoin endToEnd (graphOf (now («first_times» .entry)) (now («first_arrows» .entry)))
+        (graphOf (now («second_times» .entry)) (now («second_arrows» .entry)))
+        (now (times .entry)) (now (arrows .entry)) (now (times .exit)) (now (arrows .exit))) flatCounts r ⌝ }
+{
+    flatten_counts(end_to_end(
+        first_times,
+        first_arrows,
+        second_times,
+        second_arrows,
+        times,
+        arrows,
+    ))
+}
+
+// The same side by side.
+#[no_mangle]
+pub extern "C" fn zul_side_by_side(
+    first_times: &[u16],
+    first_arrows: &[[u16; 2]],
+    second_times: &[u16],
+    second_arrows: &[[u16; 2]],
+    times: &mut [u16],
+    arrows: &mut [[u16; 2]],
+) -> FlatCounts
+    ensures { λ r. ⌜ Flattens (IsJoin sideBySide (graphOf (now («first_times» .entry)) (now («first_arrows» .entry)))
+        (graphOf (now («second_times» .entry)) (now («second_arrows» .entry)))
+        (now (times .entry)) (now (arrows .entry)) (now (times .exit)) (now (arrows .exit))) flatCounts r ⌝ }
+{
+    flatten_counts(side_by_side(
+        first_times,
+        first_arrows,
+        second_times,
+        second_arrows,
+        times,
+        arrows,
+    ))
+}
+
+// C and P of a nest, out of the row that it is written as.
+#[no_mangle]
+pub extern "C" fn zul_nest(row: &[[u32; 3]]) -> FlatMeasure
+    ensures { λ r. ⌜ Flattens (IsNestMeasure (now (row .entry))) flatMeasure r ⌝ }
+{
+    flatten_measure(nest_figures(row))
 }

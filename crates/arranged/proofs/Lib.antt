@@ -8,3 +8,7 @@ pub mod SoFar
 pub mod Placed
 -- the arrows by either side
 pub mod BothSides
+-- what callers cite
+pub mod OwnTables
+-- those that no arrow has at one side
+pub mod NoArrows

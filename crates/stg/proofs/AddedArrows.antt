@@ -1,8 +1,8 @@
 -- One predecessor more, in a row of arrows. Assumes nothing.
-use mathlib.Core.Path.{_≡_, refl, sym, _∙_, ap}
+use mathlib.Core.Path.{_≡_, refl, sym, ap}
 use mathlib.Core.List.{List, [], _∷_, _++_, map}
 use mathlib.Core.Bool.{Bool, true, false, cond}
-use Prim.Native.Nat.{ℕ, suc, _+_, _≤_}
+use Prim.Native.Nat.{ℕ, _+_, _≤_}
 use native.Mathlib.Omega.{arith}
 use native.Mathlib.Nat.{add-zero}
 use borrow.Author.Tests.{eq-eqb, ne-eqb}
@@ -10,6 +10,7 @@ use lib.Dec.{eqb}
 use lib.ListN.{length, set, length-append, length-map}
 use lib.Seq.{sets, set-out}
 use Rattle.terms.specs.Readings.{arrowsInto}
+use Rattle.theory.proofs.Stores.{sets-append}
 use Rattle.stg.specs.LinesRead.{clipped, hold, held, Added}
 
 -- ---- one predecessor
@@ -28,10 +29,6 @@ module _ (i p a : ℕ) (row : List (List ℕ)) where
   added-in e x y q r = record { counts = rw (ne-eqb p 0 e); holds = rw (ne-eqb p 0 e, q, r) }
 
 -- ---- one, then others
-
-pub sets-append : (l : List (List ℕ)) (i : ℕ) (xs ys : List (List ℕ)) → sets l i (xs ++ ys) ≡ sets (sets l i xs) (i + length xs) ys
-sets-append l i [] ys = rw add-zero
-sets-append l i (x ∷ xs) ys = sets-append (set l i x) (suc i) xs ys ∙ ap (λ (n : ℕ). sets (sets (set l i x) (suc i) xs) n ys) (omega arith)
 
 pub map-hold : (xs ys : List (List ℕ)) → map hold (xs ++ ys) ≡ map hold xs ++ map hold ys
 map-hold [] ys = refl

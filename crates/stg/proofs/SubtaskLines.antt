@@ -14,8 +14,9 @@ use Rattle.text.specs.Rest.{line, later}
 use Rattle.terms.specs.Rows.{refusalOf}
 use Rattle.terms.specs.Readings.{Reading, refuse, graph, need, isTask, timeIn, predecessorsIn, arrowsInto, withTask, taskLines, exitLine}
 use Rattle.terms.specs.declared.Refusal.{Refusal}
+use Rattle.theory.proofs.Stores.{sets-append}
 use Rattle.stg.specs.LinesRead.{hold, TaskIs, Fails, Rows, outcome, OneSubtask, AllSubtasks}
-use Rattle.stg.proofs.AddedArrows.{sets-append, map-hold}
+use Rattle.stg.proofs.AddedArrows.{map-hold}
 use Rattle.stg.proofs.OneLine.{top-line, rest-line}
 
 rows : (ts ts′ : List ℕ) (ar ar′ : List (List ℕ)) (j j′ a a′ : ℕ) → ts ≡ ts′ → ar ≡ ar′ → j ≡ j′ → a ≡ a′ → Rows ts ar j a ≡ Rows ts′ ar′ j′ a′

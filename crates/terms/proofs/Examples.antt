@@ -15,8 +15,10 @@ use Rattle.terms.specs.Paths.{totalWork, PathTo, alone, along, weight, I
 use Rattle.terms.specs.Verdicts.{bound, sureEnd, IsVerdict, loadOf}
 use Rattle.terms.specs.Plans.{at, notPlaced, processorOf, startOf, endOf}
 use Rattle.terms.specs.ListRule.{put}
+use Rattle.terms.specs.Joins.{graphOf}
 use Rattle.terms.specs.Refusals.{graphRows, lowest}
 use Rattle.terms.specs.Replies.{IsOutcome, IsAnswer, IsListed, IsChecked}
+use Rattle.terms.specs.NestGraphs.{HasWeights}
 use Rattle.terms.specs.declared.Entry.{Entry}
 use Rattle.terms.specs.declared.Refusal.{Refusal}
 use Rattle.terms.specs.declared.Verdict.{Verdict}
@@ -104,14 +106,19 @@ module _ (times : List ℕ) (arrows : List (List ℕ)) (finish : List ℕ) (P : 
   abbrev pub acyclic : Finished → Decision (lowest 7 (λ j. LeadsTo arrows j j))
   acyclic f = never (no-cycle times arrows finish P (by-yes (decFinishes times arrows finish P) f))
 
-  has-figures : (M C S : ℕ) (f : Finished) (j : ℕ) (path : PathTo times arrows j) → weight path ≡ P
-      → Accepts (graphDecided times arrows (acyclic f)) → totalWork times ≡ C → bound C P M ≡ S → HasFigures times arrows M C P S
-  has-figures M C S f j path w a c s = record {
+  pub has-weights : (C : ℕ) (f : Finished) (j : ℕ) (path : PathTo times arrows j) → weight path ≡ P
+      → Accepts (graphDecided times arrows (acyclic f)) → totalWork times ≡ C → HasWeights (graphOf times arrows) (record { c = C; p = P })
+  has-weights C f j path w a c = record {
     accepted = accepts (graphDecided times arrows (acyclic f)) a;
     work = c;
     path = longest-by times arrows finish P (by-yes (decFinishes times arrows finish P) f) j path w;
-    sum = s;
   }
+
+  has-figures : (M C S : ℕ) (f : Finished) (j : ℕ) (path : PathTo times arrows j) → weight path ≡ P
+      → Accepts (graphDecided times arrows (acyclic f)) → totalWork times ≡ C → bound C P M ≡ S → HasFigures times arrows M C P S
+  has-figures M C S f j path w a c s =
+      let h = has-weights C f j path w a c in
+      record { accepted = h .accepted; work = h .work; path = h .path; sum = s }
 
   says : (M D C S : ℕ) (verdict : Verdict) (f : Finished) → HasFigures times arrows M C P S → Accepts (verdictDecided times arrows M D (acyclic f))
       → IsVerdict S M D verdict → Says times arrows M D C P S verdict
@@ -164,7 +171,7 @@ module _ (times : List ℕ) (arrows : List (List ℕ)) (finish : List ℕ) (P : 
 abbrev pub arrowAt : (arrows : List (List ℕ)) (a : ℕ) → T (isYes (decLt a (length arrows))) → Precedes arrows (fromOf arrows a) (toOf arrows a)
 arrowAt arrows a l = record { place = a; inside = by-yes (decLt a (length arrows)) l; begins = refl; arrives = refl }
 
-abbrev subtaskAt : (times : List ℕ) (j : ℕ) → T (isYes (decAmong 1 (length times) j)) → IsSubtask times j
+abbrev pub subtaskAt : (times : List ℕ) (j : ℕ) → T (isYes (decAmong 1 (length times) j)) → IsSubtask times j
 subtaskAt times j t = by-yes (decAmong 1 (length times) j) t
 
 abbrev finishG : List ℕ

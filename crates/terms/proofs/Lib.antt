@@ -6,3 +6,4 @@ pub mod PlacedRefusals
 pub mod AlteredG
 pub mod WorkedTexts
 pub mod WrittenTexts
+pub mod Products

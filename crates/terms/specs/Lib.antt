@@ -7,8 +7,11 @@ pub mod Plans
 pub mod ListRule
 pub mod Arrangements
 pub mod Writings
+pub mod Joins
+pub mod Nests
 pub mod Refusals
 pub mod Replies
+pub mod NestGraphs
 pub mod Alterations
 pub mod Texts
 pub mod Readings

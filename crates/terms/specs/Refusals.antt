@@ -9,6 +9,8 @@ use Rattle.terms.specs.Graphs.{Among, IsSubtask, timeOf, fromOf, toOf, P
 use Rattle.terms.specs.Plans.{processorOf, startOf, endOf, RunsAt, IdleAt}
 use Rattle.terms.specs.ListRule.{IsOrder}
 use Rattle.terms.specs.Writings.{stgText}
+use Rattle.terms.specs.Joins.{Graph, size}
+use Rattle.terms.specs.Nests.{SomeNest}
 use Rattle.terms.specs.declared.Entry.{Entry}
 
 -- some subtask is so
@@ -175,3 +177,17 @@ arrangeRows times arrows begins numbers = namedRows times arrows ++ row 11 ((beg
 -- the writer, over a lent room of so many bytes: 1 to 7, 11
 unfoldable pub writeRows : List ℕ → List (List ℕ) → ℕ → List Row
 writeRows times arrows room = graphRows times arrows ++ row 11 (room < length (stgText times arrows)) ∷ []
+
+-- a join of a and b to g, over lent rows of so many times and arrows: 1 to 7 of a, 1 to 7 of b, 30, 31, 11
+unfoldable pub joinRows : Graph → Graph → Graph → ℕ → ℕ → List Row
+joinRows a b g times arrows =
+    graphRows (a .times) (a .arrows)
+    ++ (graphRows (b .times) (b .arrows)
+    ++ row 30 (256 < size g)
+    ∷ row 31 (2048 < length (g .arrows))
+    ∷ row 11 ((times < size g) ⊎ (arrows < length (g .arrows)))
+    ∷ [])
+
+-- the figures of a nest: 32
+unfoldable pub nestRows : List (List ℕ) → List Row
+nestRows entries = row 32 (¬ SomeNest entries) ∷ []

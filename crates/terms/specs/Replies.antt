@@ -10,7 +10,9 @@ use Rattle.terms.specs.Plans.{EndsAt}
 use Rattle.terms.specs.ListRule.{IsListPlan}
 use Rattle.terms.specs.Arrangements.{Arranged}
 use Rattle.terms.specs.Writings.{stgText}
-use Rattle.terms.specs.Refusals.{graphRows, verdictRows, listRows, checkRows, arrangeRows, writeRows}
+use Rattle.terms.specs.Joins.{Graph, size, Way, joined}
+use Rattle.terms.specs.Nests.{Nest, workOf, pathOf, IsNest}
+use Rattle.terms.specs.Refusals.{graphRows, verdictRows, listRows, checkRows, arrangeRows, writeRows, joinRows, nestRows}
 use Rattle.terms.specs.declared.Check.{Check}
 use Rattle.terms.specs.declared.Check.the-variants as check
 use Rattle.terms.specs.declared.Measure.{Measure}
@@ -24,6 +26,8 @@ use Rattle.terms.specs.declared.Answer.{Answer}
 use Rattle.terms.specs.declared.Entry.{Entry}
 use Rattle.terms.specs.declared.PlanEnd.{PlanEnd}
 use Rattle.terms.specs.declared.PlanEnd.the-variants as planEnd
+use Rattle.terms.specs.declared.Counts.{Counts}
+use Rattle.terms.specs.declared.Counts.the-variants as counts
 use Rattle.terms.specs.declared.Written.{Written}
 use Rattle.terms.specs.declared.Written.the-variants as written
 
@@ -95,3 +99,23 @@ unfoldable pub IsWritten : List ℕ → List (List ℕ) → List ℕ → List �
 IsWritten times arrows before after (written.Bytes k) =
     Accepted (writeRows times arrows (length before)) × (k ≡ length (stgText times arrows)) × (after ≡ stgText times arrows ++ drop k before)
 IsWritten times arrows before after (written.Refused refusal) = RefusedBy (writeRows times arrows (length before)) refusal × (after ≡ before)
+
+-- a join of a and b to g, over the lent rows as they were before and are after: g in front, and past it the old contents; with a refusal they
+-- stay as they were
+unfoldable pub IsJoined : Graph → Graph → Graph → List ℕ → List (List ℕ) → List ℕ → List (List ℕ) → Counts → Type 0
+IsJoined a b g times₀ arrows₀ times arrows (counts.Read counted) =
+    Accepted (joinRows a b g (length times₀) (length arrows₀))
+    × (counted .subtasks ≡ size g)
+    × (counted .arrows ≡ length (g .arrows))
+    × (times ≡ g .times ++ drop (counted .subtasks) times₀)
+    × (arrows ≡ g .arrows ++ drop (counted .arrows) arrows₀)
+IsJoined a b g times₀ arrows₀ times arrows (counts.Refused refusal) =
+    RefusedBy (joinRows a b g (length times₀) (length arrows₀)) refusal × (times ≡ times₀) × (arrows ≡ arrows₀)
+
+abbrev pub IsJoin : Way → Graph → Graph → List ℕ → List (List ℕ) → List ℕ → List (List ℕ) → Counts → Type 0
+IsJoin way a b = IsJoined a b (joined way a b)
+
+-- the figures of a nest, of the row that is its writing
+unfoldable pub IsNestMeasure : List (List ℕ) → Measure → Type 0
+IsNestMeasure row (measure.Is weights) = (nest : Nest) × IsNest row nest × (weights .c ≡ workOf nest) × (weights .p ≡ pathOf nest)
+IsNestMeasure row (measure.Refused refusal) = RefusedBy (nestRows row) refusal

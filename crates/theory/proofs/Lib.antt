@@ -38,6 +38,13 @@ pub mod ListPlans
 pub mod Ascending
 pub mod SortedArrows
 pub mod TimesOver
+-- joined graphs
+pub mod Faultless
+pub mod JoinedArrows
+pub mod JoinedRows
+pub mod JoinedSound
+pub mod JoinedPaths
+pub mod JoinedReplies
 -- the written text
 pub mod Decimals
 pub mod LinesBack
@@ -46,6 +53,10 @@ pub mod TextLengths
 pub mod LongestText
 pub mod TextBack
 pub mod WrittenBack
+-- nests
+pub mod Together
+pub mod OneNest
+pub mod NestWeights
 -- what a reader wants
 pub mod OneReply
 pub mod Places
@@ -57,3 +68,4 @@ pub mod OtherVerdicts
 pub mod SureEnds
 pub mod TwoSubtasks
 pub mod Dummies
+pub mod JoinDummies

@@ -8,7 +8,7 @@ use native.Mathlib.Decide.{decLe}
 use lib.ListN.{length, getD, take, drop, take-append-drop}
 use lib.Seq.{ext-getD, getD-take, length-take-le}
 use Rattle.terms.specs.Graphs.{Among}
-use Rattle.terms.specs.Arrangements.{stretch, rowOf, Arranged}
+use Rattle.terms.specs.Arrangements.{stretch, rowOf, Begins, Arranged}
 use Rattle.terms.specs.Refusals.{arrangeRows}
 use Rattle.terms.specs.Replies.{IsArranged}
 use Rattle.terms.specs.declared.Check.{Check}
@@ -16,6 +16,20 @@ use Rattle.terms.specs.declared.Check.the-variants as check
 use Rattle.theory.proofs.Answers.{one-refusal, not-both}
 use Rattle.theory.proofs.Accepted.{sound-arrange}
 use Rattle.theory.proofs.Ascending.{stretch-length, stretch-same}
+
+-- going back from the last begin none is above it
+pub begin-within : {n a : ℕ} {begins : List ℕ} → Begins n a begins → (i j : ℕ) → i + j ≡ n → getD begins i 0 ≤ a
+begin-within {n} {a} {begins} b i zero e =
+    let all : i ≡ n = omega (arith, e) in
+    omega (arith, b .last, ap (λ (k : ℕ). getD begins k 0) all)
+begin-within {n} {a} {begins} b i (suc j) e =
+    let before : suc i - 1 ≡ i = omega arith in
+    omega (
+      arith,
+      begin-within b (suc i) j (omega (arith, e)),
+      b .rises (suc i) (record { low = omega arith; high = omega (arith, e) }),
+      ap (λ (k : ℕ). getD begins k 0) before,
+    )
 
 -- ---- the same wanted rows stand in the same places
 

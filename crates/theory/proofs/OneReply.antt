@@ -7,9 +7,10 @@ use lib.ListN.{length, take, drop, take-append-drop}
 use lib.Ieee.{Float}
 use Rattle.terms.specs.Rows.{Row}
 use Rattle.terms.specs.Verdicts.{IsVerdict, AreFigures}
-use Rattle.terms.specs.Refusals.{timeAndArrowRows, graphRows, verdictRows, listRows, checkRows, writeRows}
-use Rattle.terms.specs.Replies.{IsCheck, IsMeasure, IsTotalWork, IsLongestPath, IsOutcome, IsAnswer, IsListed, IsChecked, IsWritten}
+use Rattle.terms.specs.Refusals.{timeAndArrowRows, graphRows, verdictRows, listRows, checkRows, writeRows, joinRows}
+use Rattle.terms.specs.Replies.{IsCheck, IsMeasure, IsTotalWork, IsLongestPath, IsOutcome, IsAnswer, IsListed, IsChecked, IsWritten, IsJoined}
 use Rattle.terms.specs.Writings.{stgText}
+use Rattle.terms.specs.Joins.{Graph}
 use Rattle.terms.specs.Readings.{Reading, refuse, graph, readText, IsReplyTo, IsRead}
 use Rattle.terms.specs.declared.Entry.{Entry}
 use Rattle.terms.specs.declared.Check.{Check}
@@ -170,3 +171,23 @@ one-written times arrows before after other (written.Bytes k) (written.Refused b
 one-written times arrows before after other (written.Refused a) (written.Bytes l) p q = not-both (writeRows times arrows (length before)) a (q .0) (p .0)
 one-written times arrows before after other (written.Refused a) (written.Refused b) p q =
     (ap written.Refused (one-refusal (writeRows times arrows (length before)) a b (p .0) (q .0)), p .1 ∙ sym (q .1))
+
+-- ---- the joins: the reply, and both rows
+
+pub one-joined : (a b g : Graph) (times₀ times times′ : List ℕ) (arrows₀ arrows arrows′ : List (List ℕ)) (x y : Counts)
+    → IsJoined a b g times₀ arrows₀ times arrows x → IsJoined a b g times₀ arrows₀ times′ arrows′ y
+    → (x ≡ y) × (times ≡ times′) × (arrows ≡ arrows′)
+unfolding IsJoined
+one-joined a b g times₀ times times′ arrows₀ arrows arrows′ (counts.Read c) (counts.Read d) (p, n, m, h, i) (q, n′, m′, h′, i′) =
+    let e : c .subtasks ≡ d .subtasks = n ∙ sym n′ in
+    let f : c .arrows ≡ d .arrows = m ∙ sym m′ in (
+      ap₂ (λ (k l : ℕ). counts.Read (record { subtasks = k; arrows = l })) e f,
+      h ∙ ap (λ (k : ℕ). g .times ++ drop k times₀) e ∙ sym h′,
+      i ∙ ap (λ (k : ℕ). g .arrows ++ drop k arrows₀) f ∙ sym i′,
+    )
+one-joined a b g times₀ times times′ arrows₀ arrows arrows′ (counts.Read c) (counts.Refused r) p q =
+    not-both (joinRows a b g (length times₀) (length arrows₀)) r (p .0) (q .0)
+one-joined a b g times₀ times times′ arrows₀ arrows arrows′ (counts.Refused r) (counts.Read d) p q =
+    not-both (joinRows a b g (length times₀) (length arrows₀)) r (q .0) (p .0)
+one-joined a b g times₀ times times′ arrows₀ arrows arrows′ (counts.Refused r) (counts.Refused s) (p, h, i) (q, h′, i′) =
+    (ap counts.Refused (one-refusal (joinRows a b g (length times₀) (length arrows₀)) r s p q), h ∙ sym h′, i ∙ sym i′)

@@ -10,6 +10,8 @@ use Rattle.terms.specs.Graphs.{Among, timeOf, fromOf, toOf, LeadsTo}
 use Rattle.terms.specs.Plans.{processorOf, startOf, IdleAt}
 use Rattle.terms.specs.Refusals.{NamesOutside, Repeats, StartsEarly, Share, firstArrow, lowest, countRows, timeRows, subtaskRows, sizeRows, arrowRows, graphRows, namedRows, timeAndArrowRows}
 use Rattle.terms.specs.Refusals.{processorRows, onRows, deadlineRows, orderRows, planRows, verdictRows, listRows, checkRows, arrangeRows, writeRows}
+use Rattle.terms.specs.Refusals.{joinRows, nestRows}
+use Rattle.terms.specs.Joins.{Graph}
 use Rattle.terms.specs.declared.Entry.{Entry}
 use Rattle.terms.proofs.Decide.{Least, seek, decAmong, decRepeats, decIdle, decStartsEarly, share-turned, decShare}
 use Rattle.terms.proofs.Decisions.{Decision, holdsAt, never, decFirstSubtask, decFirstArrow, decSmallestPair}
@@ -110,3 +112,11 @@ module _ (times : List ℕ) (arrows : List (List ℕ)) where
         (and (decided (decFirstSubtask 15 times (StartsEarly times arrows plan) (decStartsEarly times arrows plan)))
         (and (decided (decSmallestPair 16 times (Share times plan) share-turned (λ i j s. s .two) (decShare times plan)))
         (and (least 17 (IdleAt times arrows M plan) (decIdle times arrows M plan)) none))))))
+
+pub join-places : (a b g : Graph) (times arrows : ℕ) → HavePlaces (joinRows a b g times arrows)
+unfolding joinRows
+join-places a b g times arrows = then (graph-places (a .times) (a .arrows)) (then (graph-places (b .times) (b .arrows)) (and plain (and plain (and plain none))))
+
+pub nest-places : (entries : List (List ℕ)) → HavePlaces (nestRows entries)
+unfolding nestRows
+nest-places entries = and plain none

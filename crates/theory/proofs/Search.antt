@@ -8,13 +8,13 @@ use native.Mathlib.Decide.{decLe, ℕ-discrete}
 use Rattle.terms.specs.Graphs.{Among}
 
 -- 1..n within 1..n + 1
-within : {n j : ℕ} → Among 1 n j → Among 1 (suc n) j
+pub within : {n j : ℕ} → Among 1 n j → Among 1 (suc n) j
 within r = record { low = r .low; high = omega (arith, r .high) }
 
-inner : {n j : ℕ} → Among 1 (suc n) j → j ≢ suc n → Among 1 n j
+pub inner : {n j : ℕ} → Among 1 (suc n) j → j ≢ suc n → Among 1 n j
 inner r h = record { low = r .low; high = omega (arith, r .high) }
 
-topmost : (n : ℕ) → Among 1 (suc n) (suc n)
+pub topmost : (n : ℕ) → Among 1 (suc n) (suc n)
 topmost n = record { low = omega arith; high = omega arith }
 
 -- some j of 1..n is so, or none is

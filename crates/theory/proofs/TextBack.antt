@@ -90,8 +90,8 @@ unfolding stgText stgLines lastOf
 arrows-text times arrows arrows′ same =
     ap₂ (λ (ls : List (List ℕ)) (lasts : List ℕ). textOf ((length times ∷ []) ∷ (0 ∷ 0 ∷ 0 ∷ []) ∷ ls ++ exitNumbers (length times) lasts ∷ []))
     (lines-same (predecessorsOf (length times) arrows) (predecessorsOf (length times) arrows′) 1 times
-    (λ j. passing-same _ _ (length times) (λ i. has-same same i j)))
-    (passing-same _ _ (length times) (λ i. ap isNone (passing-same _ _ (length times) (λ j. has-same same i j))))
+    (λ j. passing-same _ _ (length times) (λ i b. has-same same i j)))
+    (passing-same _ _ (length times) (λ i b. ap isNone (passing-same _ _ (length times) (λ j c. has-same same i j))))
 
 -- the same times and the same arrows give the same text, whether accepted or not
 pub same-text : (times times′ : List ℕ) (arrows arrows′ : List (List ℕ)) → times ≡ times′ → SameArrows arrows arrows′

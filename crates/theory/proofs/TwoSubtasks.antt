@@ -26,7 +26,7 @@ use Rattle.theory.proofs.Paths.{one-longest}
 pub none-precedes : {i j : ℕ} → ¬ Precedes [] i j
 none-precedes w = omega (arith, w .inside)
 
-loose-sound : (times : List ℕ) → Among 1 256 (length times) → ((j : ℕ) → IsSubtask times j → 1 ≤ timeOf times j) → SoundGraph times []
+pub loose-sound : (times : List ℕ) → Among 1 256 (length times) → ((j : ℕ) → IsSubtask times j → 1 ≤ timeOf times j) → SoundGraph times []
 loose-sound times count positive = record {
   count = count;
   positive = positive;

@@ -2,5 +2,4 @@ pub mod TaskLines
 pub mod TableRows
 pub mod SubtaskTexts
 pub mod WholeTexts
-pub mod NoSuccessors
 pub mod Replied

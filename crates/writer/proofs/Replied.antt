@@ -1,23 +1,24 @@
 -- From the bytes put to the writer's reply: over the rows of an accepted graph they are the graph's text. Assumes nothing.
 use mathlib.Core.Path.{_≡_, refl, ap, ap₂, _∙_}
 use mathlib.Core.List.{List, [], _∷_, _++_}
-use Prim.Native.Nat.{ℕ, zero, suc, _+_, _-_, _≤_, _<_}
+use Prim.Native.Nat.{ℕ, _+_, _-_, _≤_, _<_}
 use native.Mathlib.Omega.{arith}
-use lib.ListN.{length, getD, take, drop, replicate, length-take, length-replicate}
+use lib.ListN.{length, take, drop, replicate, length-take}
 use Rattle.terms.specs.Rows.{Accepted, row, refusalOf}
 use Rattle.terms.specs.Arrangements.{predecessorsOf, sourcesOf, lastOf, rowOf}
 use Rattle.terms.specs.Writings.{textOf, withCount, subtaskLines, exitNumbers, stgLines, stgText}
-use Rattle.terms.specs.Refusals.{graphRows, arrangeRows, writeRows}
+use Rattle.terms.specs.Refusals.{graphRows, writeRows}
 use Rattle.terms.specs.Replies.{IsCheck, IsArranged, IsWritten}
 use Rattle.terms.specs.declared.Check.{Check}
 use Rattle.terms.specs.declared.Check.the-variants as check
 use Rattle.terms.specs.declared.Refusal.{Refusal}
 use Rattle.terms.specs.declared.Written.{Written}
 use Rattle.terms.specs.declared.Written.the-variants as written
-use Rattle.theory.specs.Sound.{SoundGraph}
-use Rattle.theory.proofs.Accepted.{sound-graph, accepted-graph, accepted-arrange}
-use Rattle.theory.proofs.Answers.{not-both, refused-first, Passed, begin, past, past-all, stop-with, done}
+use Rattle.theory.proofs.Accepted.{sound-graph, accepted-graph}
+use Rattle.theory.proofs.Answers.{refused-first, Passed, begin, past, past-all, stop-with, done}
 use Rattle.theory.proofs.TimesOver.{sources-accepted}
+use Rattle.theory.proofs.OneArranged.{begin-within}
+use Rattle.arranged.proofs.OwnTables.{in-tables}
 use Rattle.room.specs.Puts.{Stands}
 use Rattle.room.proofs.Puts.{stands-left}
 use Rattle.writer.specs.Lines.{rowsText, Rows, SoundRows}
@@ -53,20 +54,6 @@ module _ {times : List ℕ} {arrows : List (List ℕ)} {begins numbers : List �
   abbrev n : ℕ
   n = length times
 
-  -- going back from the last begin none is above it
-  upto : (i j : ℕ) → i + j ≡ n → getD begins i 0 ≤ length arrows
-  upto i zero e =
-      let all : i ≡ n = omega (arith, e) in
-      omega (arith, rows .arranged .stand .last, ap (λ (k : ℕ). getD begins k 0) all)
-  upto i (suc j) e =
-      let before : suc i - 1 ≡ i = omega arith in
-      omega (
-        arith,
-        upto (suc i) j (omega (arith, e)),
-        rows .arranged .stand .rises (suc i) (record { low = omega arith; high = omega (arith, e) }),
-        ap (λ (k : ℕ). getD begins k 0) before,
-      )
-
   pub rows-stand : Rows times begins numbers
   rows-stand = record {
     count = rows .sound .count .high;
@@ -75,7 +62,7 @@ module _ {times : List ℕ} {arrows : List (List ℕ)} {begins numbers : List �
       first = b .low;
       long = omega (arith, rows .long-begins, b .high, rows .sound .count .high);
       rises = rows .arranged .stand .rises j b;
-      inside = omega (arith, upto j (n - j) (omega (arith, b .high)), rows .long-numbers, rows .sound .few);
+      inside = omega (arith, begin-within (rows .arranged .stand) j (n - j) (omega (arith, b .high)), rows .long-numbers, rows .sound .few);
     };
   }
 
@@ -112,31 +99,16 @@ module _ {times : List ℕ} {arrows : List (List ℕ)} {begins numbers : List �
 
 -- ---- the arrangement over the writer's own tables
 
-module _ (times : List ℕ) (arrows : List (List ℕ)) (accepted : Accepted (graphRows times arrows)) where
-  long-begins : length (replicate {A = ℕ} 257 0) ≡ 257
-  long-begins = length-replicate {A = ℕ} 257 0
-
-  long-numbers : length (replicate {A = ℕ} 2048 0) ≡ 2048
-  long-numbers = length-replicate {A = ℕ} 2048 0
-
-  sound : SoundGraph times arrows
-  sound = sound-graph times arrows accepted
-
-  -- they have room for every accepted graph
-  room : Accepted (arrangeRows times arrows (length (replicate {A = ℕ} 257 0)) (length (replicate {A = ℕ} 2048 0)))
-  room = accepted-arrange times arrows _ _ sound (omega (arith, long-begins, sound .count .high)) (omega (arith, long-numbers, sound .few))
-
-  -- so it does not refuse, and leaves the rows of predecessors
-  pub sound-arranged : (begins numbers : List ℕ) (r : Check)
-      → IsArranged (sourcesOf (length times) arrows) times arrows (replicate 257 0) (replicate 2048 0) begins numbers r → SoundRows times arrows begins numbers
-  unfolding IsArranged
-  sound-arranged begins numbers (check.Refused refusal) answer = not-both _ refusal room (answer .0)
-  sound-arranged begins numbers check.Sound (_, held) = record {
-    sound = sound;
-    long-begins = held .same-begins ∙ long-begins;
-    long-numbers = held .same-numbers ∙ long-numbers;
-    arranged = record {
-      stand = held .arranged .stand;
-      rows = λ j b. held .arranged .rows j b ∙ sources-accepted times arrows accepted j;
-    };
-  }
+-- it leaves the rows of predecessors
+pub sound-arranged : (times : List ℕ) (arrows : List (List ℕ)) → Accepted (graphRows times arrows) → (begins numbers : List ℕ) (r : Check)
+    → IsArranged (sourcesOf (length times) arrows) times arrows (replicate 257 0) (replicate 2048 0) begins numbers r → SoundRows times arrows begins numbers
+sound-arranged times arrows accepted begins numbers r answer =
+    let held = in-tables times arrows accepted _ begins numbers r answer in record {
+      sound = sound-graph times arrows accepted;
+      long-begins = held .long-begins;
+      long-numbers = held .long-numbers;
+      arranged = record {
+        stand = held .arranged .stand;
+        rows = λ j b. held .arranged .rows j b ∙ sources-accepted times arrows accepted j;
+      };
+    }

@@ -1,19 +1,13 @@
 -- The row of a subtask is a part of the table of numbers. Assumes nothing.
-use mathlib.Core.Path.{_≡_, refl, sym, ap, ap₂, _∙_}
-use mathlib.Core.List.{List, _∷_}
-use Prim.Native.Nat.{ℕ, zero, suc, _+_, _-_, _≤_, _<_}
+use mathlib.Core.Path.{_≡_, sym, ap₂, _∙_}
+use mathlib.Core.List.{List}
+use Prim.Native.Nat.{ℕ, _+_, _-_, _≤_, _<_}
 use native.Mathlib.Omega.{arith}
 use lib.ListN.{length, getD, take, drop, length-drop}
-use lib.Seq.{drop-cons, length-take-le}
+use lib.Seq.{length-take-le}
 use Rattle.terms.specs.Arrangements.{stretch, rowOf}
+use Rattle.theory.proofs.Ascending.{stretch-part}
 use Rattle.writer.specs.Lines.{HasRow, Rows}
-
-stretch-part : (numbers : List ℕ) (f m : ℕ) → f + m ≤ length numbers → stretch numbers f m ≡ take m (drop f numbers)
-unfolding stretch
-stretch-part numbers f zero h = refl
-stretch-part numbers f (suc m) h =
-    ap (λ (row : List ℕ). getD numbers f 0 ∷ row) (stretch-part numbers (suc f) m (omega arith))
-    ∙ sym (ap (λ (row : List ℕ). take (suc m) row) (drop-cons numbers f 0 (omega arith)))
 
 module _ {begins numbers : List ℕ} {j : ℕ} (has : HasRow begins numbers j) (from to : ℕ) (eb : from ≡ getD begins (j - 1) 0) (ee : to ≡ getD begins j 0) where
   pub row-rises : from ≤ to

@@ -1,13 +1,12 @@
 // The STG text of a graph, written into a lent room.
-mod lasts;
 mod lines;
 mod rows;
 mod sizes;
 
-use crate::lasts::list_lasts;
 use crate::lines::put_text;
 use crate::sizes::text_size;
 use arranged::by_to;
+use arranged::lasts;
 use graph::check;
 use terms::Check;
 use terms::Written;
@@ -51,9 +50,9 @@ fn write_rows(
     requires { ⌜ SoundRows (now times) (now arrows) (now begins) (now numbers) ⌝ }
     ensures { λ r. ⌜ IsWritten (now (times .entry)) (now (arrows .entry)) (now (text .entry)) (now (text .exit)) r ⌝ }
 {
-    let mut lasts = [0u16; 256];
-    let count = list_lasts(times, arrows, &mut lasts);
-    write_text(times, begins, numbers, &lasts[..count], text)
+    let mut list = [0u16; 256];
+    let count = lasts(times.len(), arrows, &mut list);
+    write_text(times, begins, numbers, &list[..count], text)
 }
 
 // The text of an accepted graph. The arrangement has room for each such graph and refuses none.

@@ -10,15 +10,17 @@ mod families;
 mod model;
 mod painted;
 mod plain;
+mod products;
 mod refused;
 mod tables;
 
 use families::{families, Sample};
+use products::Pair;
 use refused::Refused;
 use std::hint::black_box;
 use std::time::Instant;
 use tables::{Row, Rows};
-use zulagbemi::{Arrow, Entry, Graph, MAX_ARROWS, MAX_SUBTASKS, MAX_WRITTEN};
+use zulagbemi::{nest_figures, Arrow, Entry, Graph, MAX_ARROWS, MAX_NEST, MAX_SUBTASKS, MAX_WRITTEN};
 
 const M: u32 = 4;
 const D: u32 = 1000;
@@ -108,6 +110,33 @@ fn against_refused(r: &Refused) -> tables::Refused {
     tables::Refused { what: r.what, call: r.call(), said: refusal.to_string(), proved, plain, deep }
 }
 
+/// A join against plain Rust, which must leave the same in both rows.
+fn against_join(pair: &Pair) -> tables::Product {
+    let (a, b) = (&pair.first, &pair.second);
+    let (mut times, mut arrows) = (vec![0u16; MAX_SUBTASKS], vec![Arrow::default(); MAX_ARROWS]);
+    let (mut times2, mut pairs) = (times.clone(), vec![[0u16; 2]; MAX_ARROWS]);
+    let call = if pair.end_to_end { Graph::end_to_end } else { Graph::side_by_side };
+    let mut ours = || call(Graph::new(black_box(&a.times), &a.arrows), b.graph(), &mut times, &mut arrows).is_ok();
+    let second = (&b.times[..], &b.pairs[..]);
+    let mut other = || plain::join(pair.end_to_end, (black_box(&a.times), &a.pairs), second, &mut times2, &mut pairs);
+    assert!(ours());
+    let (subtasks, many) = other().expect("two graphs that can be joined");
+    let (proved, plain) = least(300, ours, other);
+    assert!(times == times2 && arrows.iter().map(|a| [a.from, a.to]).eq(pairs));
+    let what = format!("{} {} and {} {}", a.family, a.times.len(), b.family, b.times.len());
+    tables::Product { call: pair.call(), what, size: format!("{subtasks} subtasks, {many} arrows"), proved, plain }
+}
+
+/// The figures of a nest against plain Rust.
+fn against_nest((what, row): &(&'static str, Vec<[u32; 3]>)) -> tables::Product {
+    assert_eq!(row.len(), MAX_NEST);
+    let entries = products::entries(row);
+    let weights = nest_figures(&entries).expect("a nest");
+    assert_eq!(plain::nest(row), Ok((weights.total_work, weights.longest_path)));
+    let (proved, plain) = least(300, || nest_figures(black_box(&entries)), || plain::nest(black_box(row)));
+    tables::Product { call: "nest", what: (*what).into(), size: format!("{} entries", row.len()), proved, plain }
+}
+
 fn main() {
     let rows: Vec<Rows> = [16, 64, 256].into_iter().flat_map(families).map(|s| against_plain(&s)).collect();
     if std::env::args().any(|word| word == "--rows") {
@@ -117,6 +146,11 @@ fn main() {
     tables::by_family(&rows);
     let stencil = families(64).into_iter().find(|s| s.family == "stencil").expect("the family");
     tables::against_model(&against_model(&stencil));
+    let joins = products::pairs();
+    let nests = products::nests();
+    tables::products(&joins.iter().map(against_join).chain(nests.iter().map(against_nest)).collect::<Vec<_>>());
     tables::refused(&refused::refused().map(|r| against_refused(&r)));
-    tables::stack(&painted::depths(&families::largest()));
+    let crowded = products::crowded();
+    let depths = [painted::depths(&families::largest()), painted::product_depths(&crowded, &crowded)];
+    tables::stack(&depths.concat());
 }

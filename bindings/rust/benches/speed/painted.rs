@@ -2,8 +2,9 @@
 //! gone is counted.
 
 use crate::families::Sample;
+use crate::products;
 use std::hint::black_box;
-use zulagbemi::{Arrow, Entry, Graph, MAX_ARROWS, MAX_SUBTASKS, MAX_WRITTEN};
+use zulagbemi::{nest_figures, Arrow, Entry, Graph, MAX_ARROWS, MAX_SUBTASKS, MAX_WRITTEN};
 
 const PAINT: u8 = 0xA5;
 const DEEP: usize = 256 * 1024;
@@ -64,5 +65,18 @@ pub fn depths(sample: &Sample) -> Vec<(&'static str, usize)> {
         ("plan check", deep(|| g.check_plan(4, &fixed))),
         ("reader", deep(|| Graph::read_stg(&sample.text, &mut times, &mut arrows).is_ok())),
         ("writer", deep(|| g.write_stg(&mut room))),
+    ]
+}
+
+/// The same for the joins of these two graphs, and for the figures of a nest that is eight openers deep.
+pub fn product_depths(first: &Sample, second: &Sample) -> Vec<(&'static str, usize)> {
+    let (mut times, mut arrows) = (vec![0u16; MAX_SUBTASKS], vec![Arrow::default(); MAX_ARROWS]);
+    let (a, b) = (first.graph(), second.graph());
+    let [_, (_, nest)] = products::nests();
+    let nest = products::entries(&nest);
+    vec![
+        ("end to end", deep(|| a.end_to_end(b, &mut times, &mut arrows).is_ok())),
+        ("side by side", deep(|| a.side_by_side(b, &mut times, &mut arrows).is_ok())),
+        ("nest", deep(|| nest_figures(&nest))),
     ]
 }

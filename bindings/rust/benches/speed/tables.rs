@@ -102,6 +102,25 @@ pub fn by_family(rows: &[Rows]) {
     println!();
 }
 
+/// A join or the figures of a nest, in nanoseconds.
+pub struct Product {
+    pub call: &'static str,
+    pub what: String,
+    pub size: String,
+    pub proved: f64,
+    pub plain: f64,
+}
+
+/// Joins and nests, whose ratios are to be at most 1.1 too.
+pub fn products(rows: &[Product]) {
+    head(&["call", "of", "makes", "proved, µs", "plain, µs", "ratio"]);
+    for r in rows {
+        let times = format!("{:.2} | {:.2} | {:.2}", r.proved / 1000.0, r.plain / 1000.0, r.proved / r.plain);
+        println!("| {} | {} | {} | {times} |", r.call, r.what, r.size);
+    }
+    println!();
+}
+
 /// How many times as long the model takes.
 pub fn against_model(rows: &[(&str, f64)]) {
     head(&["call", "the model takes"]);

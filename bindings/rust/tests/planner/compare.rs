@@ -2,9 +2,9 @@
 
 use crate::common::graphs::{graph, processors, shuffle};
 use crate::common::random::Random;
-use crate::common::{arrows, entries};
+use crate::common::{arrows, entries, nest_entries};
 use crate::model;
-use zulagbemi::{Arrow, Entry, Graph, Reason, Refusal, Verdict, MAX_WRITTEN};
+use zulagbemi::{nest_figures, Arrow, Entry, Graph, Reason, Refusal, Verdict, Weights, MAX_WRITTEN};
 
 /// The reply with its refusal as the model's, whose number must be one of the table.
 fn plain<T>(reply: Result<T, Refusal>) -> model::Reply<T> {
@@ -149,4 +149,64 @@ pub fn same_reading(text: &[u8], (t, a): (usize, usize)) -> model::Reply<(usize,
     assert_eq!(reply, expected.map(|g| (g.0.len(), g.1.len())), "{shown}");
     assert_eq!((ours, ours_arrows), (times, arrows(&pairs)), "{shown}");
     reply
+}
+
+/// Compares a join of two graphs in rows near the joined graph's size, the rows after the call too, and answers the reply.
+pub fn same_join(random: &mut Random, end_to_end: bool, first: &Case, second: &Case) -> model::Reply<(usize, usize)> {
+    let (a, b) = ((&first.times[..], &first.pairs[..]), (&second.times[..], &second.pairs[..]));
+    let (n, m) = model::join(end_to_end, a, b, &mut [0; 256], &mut [[0; 2]; 2048]).unwrap_or((9, 9));
+    let near = |random: &mut Random, size: usize| match random.below(12) {
+        0 => random.below(size as u64 + 1) as usize,
+        1 => size.saturating_sub(1),
+        2 => size,
+        _ => size + random.below(5) as usize,
+    };
+    let mut times: Vec<u16> = (0..near(random, n)).map(|_| random.next() as u16).collect();
+    let mut row: Vec<[u16; 2]> = (0..near(random, m)).map(|_| [random.next() as u16, 7]).collect();
+    let (mut ours, mut ours_arrows) = (times.clone(), arrows(&row));
+    let join = if end_to_end { Graph::end_to_end } else { Graph::side_by_side };
+    let joined = join(first.graph(), second.graph(), &mut ours, &mut ours_arrows);
+    let reply = plain(joined.map(|g| (g.times().len(), g.arrows().len())));
+    let shown = || format!("{:?} and {:?}", first.graph(), second.graph());
+    assert_eq!(reply, model::join(end_to_end, a, b, &mut times, &mut row), "{}", shown());
+    assert_eq!((ours, ours_arrows), (times.clone(), arrows(&row)), "{}", shown());
+    if let Ok((n, m)) = reply {
+        assert_figures(end_to_end, a, b, (&times[..n], &row[..m]));
+    }
+    reply
+}
+
+/// The joined graph is accepted; C adds, and P adds end to end and is the larger of the two side by side.
+fn assert_figures(end_to_end: bool, a: model::Graph<'_>, b: model::Graph<'_>, joined: model::Graph<'_>) {
+    let figures = |g: model::Graph<'_>| {
+        let row = arrows(g.1);
+        let g = Graph::new(g.0, &row);
+        (g.total_work().unwrap(), g.longest_path().unwrap())
+    };
+    let ((c, p), (d, q)) = (figures(a), figures(b));
+    assert_eq!(figures(joined), (c + d, if end_to_end { p + q } else { p.max(q) }), "{a:?} and {b:?}");
+}
+
+/// The archive's reply for a nest: number, place, second, C and P.
+#[repr(C)]
+struct Measured(u32, u32, u32, u32, u32);
+
+extern "C" {
+    /// As `nest_figures`, of entries that may be any three numbers.
+    fn zul_nest(row: *const [u32; 3], len: usize) -> Measured;
+}
+
+/// Compares the figures of a nest, and answers the reply.
+pub fn same_nest(row: &[[u32; 3]]) -> model::Reply<(u32, u32)> {
+    let expected = model::nest(row);
+    // SAFETY: the pointer is the slice's, beside its length; the call only reads.
+    let r = unsafe { zul_nest(row.as_ptr(), row.len()) };
+    let (c, p) = expected.unwrap_or((0, 0));
+    let (number, place, second) = expected.err().unwrap_or((0, 0, 0));
+    assert_eq!((r.0, r.1, r.2, r.3, r.4), (number, place, second, c, p), "{row:?}");
+    if let Some(entries) = nest_entries(row) {
+        let weights = |w: Weights| (w.total_work, w.longest_path);
+        assert_eq!(plain(nest_figures(&entries).map(weights)), expected, "{row:?}");
+    }
+    expected
 }

@@ -3,10 +3,11 @@
 
 use crate::common::arrows;
 use crate::common::graphs::{graph, order, shuffle};
+use crate::common::nests;
 use crate::common::random::Random;
 use crate::common::tally::Tally;
 use crate::common::texts::text;
-use crate::compare::{same_reading, Case};
+use crate::compare::{same_join, same_nest, same_reading, Case};
 use crate::model;
 use zulagbemi::{Arrow, Entry, Graph, Verdict};
 
@@ -150,4 +151,33 @@ fn written_texts() {
         }
     }
     tally.has("written texts", &[0, 1, 2, 3, 4, 5, 6, 7, 11]);
+}
+
+#[test]
+fn joins() {
+    let mut random = Random(5);
+    let (mut ends, mut sides) = (Tally::default(), Tally::default());
+    for _ in 0..cases() {
+        let (first, second) = (Case::new(&mut random), Case::new(&mut random));
+        ends.add(&same_join(&mut random, true, &first, &second));
+        sides.add(&same_join(&mut random, false, &first, &second));
+    }
+    ends.has("joins end to end", &[0, 1, 2, 3, 4, 5, 6, 7, 11, 30, 31]);
+    sides.has("joins side by side", &[0, 1, 2, 3, 4, 5, 6, 7, 11, 30, 31]);
+}
+
+#[test]
+fn nests() {
+    let mut random = Random(6);
+    let mut tally = Tally::default();
+    let mut largest = 0;
+    for _ in 0..cases() {
+        let row = nests::nest(&mut random);
+        let reply = same_nest(&row);
+        largest = largest.max(if reply.is_ok() { row.len() } else { 0 });
+        tally.add(&reply);
+    }
+    assert!(largest > 60, "no nest of more than {largest} entries was accepted");
+    assert_eq!(same_nest(&nests::largest()), Ok((240 * 16_776_960, 15 * 16_776_960)));
+    tally.has("nests", &[0, 32]);
 }

@@ -15,6 +15,9 @@ mod outside;
 #[path = "../../benches/speed/painted.rs"]
 mod painted;
 mod places;
+#[allow(dead_code)]
+#[path = "../../benches/speed/products.rs"]
+mod products;
 mod promises;
 #[allow(dead_code)]
 #[path = "../../benches/speed/refused.rs"]

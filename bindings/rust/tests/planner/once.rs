@@ -28,6 +28,9 @@ fn limits() {
         ("MAX_START", zulagbemi::MAX_START.into()),
         ("MAX_TEXT", zulagbemi::MAX_TEXT as u64),
         ("MAX_WRITTEN", zulagbemi::MAX_WRITTEN as u64),
+        ("MAX_NEST", zulagbemi::MAX_NEST as u64),
+        ("MAX_MEMBERS", zulagbemi::MAX_MEMBERS.into()),
+        ("MAX_OPENERS", zulagbemi::MAX_OPENERS.into()),
     ];
     for (name, limit) in limits {
         assert_eq!(defined(&header, name), limit, "{name}");

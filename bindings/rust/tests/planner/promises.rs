@@ -1,11 +1,11 @@
 //! What the header and the crate say of stack, threads and libraries.
 
 use crate::common::ran;
-use crate::{families, painted, refused};
+use crate::{families, painted, products, refused};
 use std::process::Command;
 use zulagbemi::{Arrow, Entry, Graph, MAX_ARROWS, MAX_SUBTASKS, MAX_TIME, MAX_WRITTEN};
 
-/// Every call on the largest graph and on refused ones, and the plan check of refused plans.
+/// Every call on the largest graph and on refused ones, the plan check of refused plans, joins and a nest.
 #[test]
 fn less_than_16_kib_of_stack() {
     let mut measured: Vec<_> = painted::depths(&families::largest()).into_iter().map(|d| ("accepted", d)).collect();
@@ -13,9 +13,13 @@ fn less_than_16_kib_of_stack() {
         measured.extend(painted::depths(&r.sample).into_iter().map(|d| (r.what, d)));
         measured.push((r.what, (r.call(), painted::deep(|| r.reply().unwrap_err()))));
     }
+    let crowded = products::crowded();
+    measured.extend(painted::product_depths(&crowded, &crowded).into_iter().map(|d| ("joined", d)));
+    measured.extend(painted::product_depths(&families::largest(), &crowded).into_iter().map(|d| ("refused by 30", d)));
     for (input, (call, deep)) in measured {
         println!("{input}, {call}: {deep} bytes");
-        assert!(deep > 1024, "{input}, {call}: {deep} bytes, which is too little to be true");
+        let least = if call == "nest" { 200 } else { 1024 };
+        assert!(deep > least, "{input}, {call}: {deep} bytes, which is too little to be true");
         assert!(deep < 16 * 1024, "{input}, {call}: {deep} bytes");
     }
 }

@@ -1,6 +1,7 @@
 //! What the tests share: inputs to try, and the way from the model's rows to the crate's.
 
 pub mod graphs;
+pub mod nests;
 pub mod random;
 pub mod tally;
 pub mod texts;
@@ -9,7 +10,7 @@ use crate::model;
 use std::fs;
 use std::path::{Path, PathBuf};
 use std::process::Command;
-use zulagbemi::{Arrow, Entry};
+use zulagbemi::{Arrow, Entry, NestEntry};
 
 /// The repository's root.
 pub fn root() -> PathBuf {
@@ -24,6 +25,18 @@ pub fn arrows(row: &[[u16; 2]]) -> Vec<Arrow> {
 /// The model's plan as the crate's.
 pub fn entries(plan: &[model::Entry]) -> Vec<Entry> {
     plan.iter().map(|e| Entry { processor: e.0, start: e.1 }).collect()
+}
+
+/// The model's row of a nest as the crate's, where each entry is one that the crate can say.
+pub fn nest_entries(row: &[[u32; 3]]) -> Option<Vec<NestEntry>> {
+    row.iter()
+        .map(|entry| match *entry {
+            [0, c, p] => Some(NestEntry::graph(c, p)),
+            [1, members, 0] => Some(NestEntry::sequence(members)),
+            [2, members, 0] => Some(NestEntry::group(members)),
+            _ => None,
+        })
+        .collect()
 }
 
 /// What a command writes to standard output; it must succeed.

@@ -1,9 +1,11 @@
 //! The planner, written again from docs/PLANNER.md and from nothing else: slow, plain, and as close to that page's words
 //! as it can be. The tests compare every proved function with it.
 
+mod joins;
 mod plans;
 mod texts;
 
+pub use joins::{join, nest, Graph};
 pub use plans::{check_plan, list_plan};
 pub use texts::{read_stg, write_stg};
 

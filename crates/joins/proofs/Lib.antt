@@ -1,0 +1,5 @@
+pub mod Putting
+pub mod RowByRow
+pub mod Successors
+pub mod Answered
+pub mod Joining

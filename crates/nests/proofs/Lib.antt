@@ -1,0 +1,4 @@
+pub mod Entries
+pub mod Members
+pub mod Passed
+pub mod WholeNests
