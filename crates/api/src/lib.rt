@@ -1,5 +1,7 @@
 // What C and Rust link: each call of the planner, its reply a flat record. It begins with the refusal, whose three numbers are all 0 with
 // success; with a refusal every other field is 0.
+#![tactic(auto)]
+
 mod flats;
 
 ghost use Rattle.std.specs.Prelude.{length};

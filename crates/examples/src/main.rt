@@ -1,4 +1,6 @@
 // Runs the worked examples of docs/PLANNER.md. What each must say stands in the file `stdout`.
+#![tactic(auto)]
+
 ghost use Rattle.std.specs.Prelude.{◌≡◌, length};
 
 use graph::{longest_path, total_work};

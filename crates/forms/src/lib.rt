@@ -1,5 +1,7 @@
 // The forms of a plan: a table of 256 entries, and two rows of numbers, its processors and its starts. How one is made from the other, and
 // where a plan ends.
+#![tactic(auto)]
+
 ghost use Rattle.std.specs.Prelude.{◌≡◌, ◌+◌, min, max, length, replicate};
 ghost use Rattle.terms.specs.Plans.{not_placed};
 ghost use Rattle.forms.specs.Forms.{entries, last_end, IsTable, IsSplit};

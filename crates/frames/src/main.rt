@@ -1,4 +1,6 @@
 // Reads an STG text from standard input, and prints C, P, S and the end of the list plan in the order 1..n for 1 to 4 processors.
+#![tactic(auto)]
+
 use inputs::order_by_number;
 use libc::{STDIN_FILENO, STDOUT_FILENO};
 use listplan::draft_plan;

@@ -1,4 +1,6 @@
 // Refusals 1 to 8, the order "predecessors first", C and P.
+#![tactic(auto)]
+
 mod chains;
 mod cycle;
 mod order;

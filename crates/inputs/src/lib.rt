@@ -1,5 +1,7 @@
 // What is read out of the rows that callers lend: arrows, times and the entries of an order, each as its kind of number. Every place of a
 // row may be asked for: outside it stands 0. And numbers in wider types, the larger of two, and an order to lend.
+#![tactic(auto)]
+
 ghost use Rattle.std.specs.Prelude.{◌≡◌, ℕ, ◌+◌, ◌<◌, max, length, get_or};
 ghost use Rattle.terms.specs.Graphs.{from_of, to_of};
 ghost use Rattle.inputs.specs.Lent.{IsTimeOf, IsArrowAt};

@@ -3,7 +3,7 @@ use mathlib.Core.Path.{◌≡◌, refl, ap, ap₂, ◌∙◌}
 use mathlib.Core.List.{List, [], ◌∷◌}
 use Prim.Native.Nat.{ℕ, suc, ◌+◌, ◌-◌, ◌≤◌, ◌<◌}
 use native.Mathlib.Omega.{arith}
-use lib.ListN.{length, get_or, set, drop, length-set, length_map}
+use lib.ListN.{length, get_or, set, drop, length-set, length-map}
 use lib.Seq.{sets, drop-cons, drop-length}
 use Rattle.terms.specs.Arrangements.{stretch}
 use Rattle.theory.proofs.Ascending.{stretch_length}
@@ -73,7 +73,7 @@ module _ (from up : ℕ) (numbers : List ℕ) where
 
   run_size : (i m : ℕ) → length (run_of from up (stretch numbers i m)) ≡ m
   unfolding run_of
-  run_size i m = length_map (stretch numbers i m) _ ∙ stretch_length numbers i m
+  run_size i m = length-map (stretch numbers i m) _ ∙ stretch_length numbers i m
 
 -- those to the numbers before place i are put
 pub record RunLeft (before : List (List ℕ)) (at from up : ℕ) (numbers : List ℕ) (begin end : ℕ) (arrows : List (List ℕ)) (k i : ℕ) : Type 0 where

@@ -4,7 +4,7 @@ use mathlib.Core.List.{List, [], ◌∷◌, ◌++◌, map, map-map, map-append}
 use Prim.Native.Nat.{ℕ, zero, suc, ◌+◌, ◌-◌, ◌≤◌, ◌<◌}
 use native.Mathlib.Omega.{arith}
 use native.Mathlib.Nat.{add_assoc}
-use lib.ListN.{length, get_or, length-append, length_map}
+use lib.ListN.{length, get_or, length-append, length-map}
 use lib.Seq.{sets, length-sets, take-length}
 use Rattle.terms.specs.Graphs.{Among}
 use Rattle.terms.specs.Arrangements.{for_each, out_of, stretch, row_of}
@@ -173,7 +173,7 @@ module _ {before : List (List ℕ)} {at up n : ℕ} {targets begins numbers : Li
 
   run_length : (from to : ℕ) (l : List ℕ) (f m : ℕ) → length (run_of from to (stretch l f m)) ≡ m
   unfolding run_of
-  run_length from to l f m = length_map (stretch l f m) _ ∙ stretch_length l f m
+  run_length from to l f m = length-map (stretch l f m) _ ∙ stretch_length l f m
 
   pub row_room : ¬ (begin ≡ end) → k + (end - begin) ≤ length arrows
   row_room d = omega (arith, here_room, ap length (here_row d), run_length (up + (v + 1)) up numbers begin (end - begin))

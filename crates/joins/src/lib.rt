@@ -1,4 +1,6 @@
 // Two graphs joined, end to end or side by side, into lent rows; and the figures of a nest of such joins. The second's numbers follow the first's.
+#![tactic(auto)]
+
 mod checks;
 mod puts;
 

@@ -1,4 +1,6 @@
 // How many subtasks, arrows and processors there may be, and which times and deadlines: 1, 2, 3, 8 and 9 of the table.
+#![tactic(auto)]
+
 ghost use Rattle.std.specs.Prelude.{◌≡◌, ◌≤◌, length};
 ghost use Rattle.terms.specs.Graphs.{time_of};
 ghost use Rattle.terms.specs.Refusals.{subtask_rows, size_rows, processor_rows, deadline_rows};

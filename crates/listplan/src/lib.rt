@@ -1,4 +1,6 @@
 // The list plan as a table of entries, with its reply: what is to be written into the lent row.
+#![tactic(auto)]
+
 mod events;
 mod order;
 mod rule;

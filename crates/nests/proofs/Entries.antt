@@ -3,7 +3,7 @@ use mathlib.Core.Path.{◌≡◌, refl, sym, ap, ◌∙◌}
 use mathlib.Core.List.{List, [], ◌∷◌}
 use Prim.Native.Nat.{ℕ, suc, ◌+◌, ◌-◌, ◌≤◌, ◌<◌}
 use native.Mathlib.Omega.{arith}
-use lib.ListN.{length, get_or, drop, length_map, length-drop, drop_of_length-le}
+use lib.ListN.{length, get_or, drop, length-map, length-drop, drop_of_length-le}
 use lib.Seq.{drop-cons}
 use Rattle.terms.specs.Nests.{InRange, three, numbers_of}
 use Rattle.nests.specs.declared.walk.Walk.{Walk}
@@ -28,7 +28,7 @@ tells_none e none = record { found = λ n. absurd (n e); nothing = λ n. none }
 module _ (row : List (List ℕ)) (at : ℕ) where
   pub entries_length : length (entries_from row at) ≡ length row - at
   unfolding entries_from
-  entries_length = length_map (drop at row) three ∙ length-drop at row
+  entries_length = length-map (drop at row) three ∙ length-drop at row
 
   pub entries_past : length row ≤ at → entries_from row at ≡ []
   unfolding entries_from

@@ -1,4 +1,6 @@
 // The figures of a nest: C and P of a product, out of the row that says how it is made of graphs.
+#![tactic(auto)]
+
 mod walk;
 
 ghost use Rattle.terms.specs.Replies.{IsNestMeasure};

@@ -1,4 +1,6 @@
 // The plan check: 1 to 8 and 12 to 17 of a table of entries, and the plan's end.
+#![tactic(auto)]
+
 mod exact;
 mod read;
 mod scan;

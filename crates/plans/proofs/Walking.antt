@@ -2,7 +2,7 @@
 pub use mathlib.Core.Path.{◌≡◌, refl, sym, subst, ◌∙◌, ap}
 pub use Prim.Native.Nat.{◌-◌, ℕ, zero, suc, ◌+◌, ◌<◌, ◌≤◌, ◌*◌, ◌^◌, zero-le}
 pub use mathlib.Core.List.{List, [], ◌∷◌, ◌++◌, map}
-pub use lib.ListN.{length, get_or, take, drop as drop-list, length_map}
+pub use lib.ListN.{length, get_or, take, drop as drop-list, length-map}
 pub use seplogic.Ra.Ura.{Ura}
 pub use seplogic.Ra.TreeShare.{full_share}
 pub use mir.Syntax.{ty_array, Ty, Local, local, place, Opd as Operand, copy, Rv as RValue, Body, seq, assign, Name, Place, call, Fn, named, w32, w64, ty_bool}

@@ -1,4 +1,6 @@
 // The list plan and the plan check over a lent row of entries.
+#![tactic(auto)]
+
 ghost use Rattle.std.specs.Prelude.{◌≡◌, ◌≤◌, length};
 ghost use Rattle.terms.specs.Replies.{IsListed, IsChecked};
 ghost use Rattle.plans.specs.Copies.{over};

@@ -1,4 +1,6 @@
 // Runs the worked joins and nests of docs/PLANNER.md, examples 15 and 16. What each must say stands in the file `stdout`.
+#![tactic(auto)]
+
 use graph::measure;
 use inputs::u32_from_u16;
 use joins::{end_to_end, nest_figures, side_by_side};

@@ -1,4 +1,6 @@
 // Bytes and numbers into a lent room, from a place on. What there is no room for is not put, and the place stays where it was.
+#![tactic(auto)]
+
 ghost use Rattle.std.specs.Prelude.{◌≡◌, [], ◌∷◌, ◌≤◌, length};
 ghost use Rattle.terms.specs.Writings.{decimal};
 ghost use Rattle.room.specs.Puts.{Put};

@@ -7,7 +7,7 @@ use native.Mathlib.Omega.{arith}
 use native.Mathlib.Nat.{add-zero}
 use borrow.Author.Tests.{eq-eqb, ne_eqb}
 use lib.Dec.{eqb}
-use lib.ListN.{length, set, length-append, length_map}
+use lib.ListN.{length, set, length-append, length-map}
 use lib.Seq.{sets, set_out}
 use Rattle.terms.specs.Readings.{arrows_into}
 use Rattle.theory.proofs.Stores.{sets_append}
@@ -61,7 +61,7 @@ module _ (i p a : ℕ) (row : List (List ℕ)) (b : ℕ) (row' : List (List ℕ)
           into_more,
           map_hold (arrows_into i (p ∷ [])) (arrows_into i qs),
           sets_append row a (held i (p ∷ [])) (held i qs),
-          length_map
+          length-map
               (arrows_into i (p ∷ [])) hold,
           ← h.counts,
           ← h.holds,

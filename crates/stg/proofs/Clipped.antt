@@ -7,7 +7,7 @@ use Prim.Native.Nat.{ℕ, zero, suc, ◌-◌, ◌≤◌, ◌<◌}
 use native.Mathlib.Omega.{arith}
 use borrow.Author.Tests.{le-leb, lt-leb, leb-true, leb-false}
 use lib.Dec.{leb}
-use lib.ListN.{length, get_or, take, length_map}
+use lib.ListN.{length, get_or, take, length-map}
 use lib.Seq.{length-take-le}
 use Rattle.terms.specs.Rows.{Smallest, IsAt, Accepted, RefusedBy, refusal_of}
 use Rattle.terms.specs.Graphs.{Among, IsSubtask, from_of, to_of}
@@ -78,22 +78,22 @@ module _ (us : List ℕ) (few : length us ≤ 256) (bs : List (List ℕ)) where
 
   some_out : SomeArrow Held (NamesOutside us Held) → SomeArrow bs (NamesOutside us bs)
   some_out s =
-      let l : s.place < length bs = omega (arith, s.inside, length_map bs hold) in
+      let l : s.place < length bs = omega (arith, s.inside, length-map bs hold) in
       record { place = s.place; inside = l; is_so = held_out s.place l s.is_so }
 
   -- and the first that does is the same
   first_out : {x : ℕ} → Smallest (ArrowAt Held (NamesOutside us Held)) x → Smallest (ArrowAt bs (NamesOutside us bs)) x
   first_out = smallest_as
-      (λ y a. let p = rw (length_map bs hold) at a.position in
+      (λ y a. let p = rw (length-map bs hold) at a.position in
       record { position = p; is_so = held_out (y - 1) (omega (arith, p.low, p.high)) a.is_so })
-      (λ y a. record { position = rw (length_map bs hold) a.position; is_so = out_held (y - 1) (omega (arith, a.position.low, a.position.high)) a.is_so })
+      (λ y a. record { position = rw (length-map bs hold) a.position; is_so = out_held (y - 1) (omega (arith, a.position.low, a.position.high)) a.is_so })
 
   inside : (SomeArrow Held (NamesOutside us Held) → ⊥) → (i : ℕ) → i < length bs → from_of bs i ≤ 65535
   inside n i l =
       ⊎_elim (λ (k : from_of bs i ≤ 65535). k)
       (λ (k : 65535 < from_of bs i). absurd (n (record {
         place = i;
-        inside = omega (arith, length_map bs hold);
+        inside = omega (arith, length-map bs hold);
         is_so = λ m. let e = from_held bs i l in let c = clip_high (from_of bs i) k in omega (arith, m.0.high);
       })))
       (low_or_high (from_of bs i))
@@ -108,7 +108,7 @@ module _ (us : List ℕ) (few : length us ≤ 256) (bs : List (List ℕ)) where
 
     same_size : size_rows Held ≡ size_rows bs
     unfolding size_rows
-    same_size = rw (length_map bs hold) refl
+    same_size = rw (length-map bs hold) refl
 
     -- 4 to 7: where 4 does not hold, the arrows are held as they are
     arrows_refused : (r : Refusal) → RefusedBy (arrow_rows us Held) r → RefusedBy (arrow_rows us bs) r

@@ -6,7 +6,7 @@ use Prim.Native.Nat.{ℕ, ◌+◌, ◌≤◌, ◌<◌}
 use native.Mathlib.Omega.{arith}
 use borrow.Author.Tests.{le-leb, lt-leb}
 use lib.Dec.{leb}
-use lib.ListN.{length, take, drop, length_map}
+use lib.ListN.{length, take, drop, length-map}
 use lib.Seq.{sets, sets-eq, take_at}
 use Rattle.terms.specs.Rows.{Accepted, refusal_of}
 use Rattle.terms.specs.Graphs.{Among}
@@ -123,7 +123,7 @@ module _ (text ts : List ℕ) (ar : List (List ℕ)) (ts' : List ℕ) (ar' : Lis
         pairs = pairs;
         many = sym g.a_is;
         first = λ h.
-            let e : length (map hold g.bs) ≡ a = length_map g.bs hold ∙ sym g.a_is in
+            let e : length (map hold g.bs) ≡ a = length-map g.bs hold ∙ sym g.a_is in
             rw (g.arrows, ← e) (laid (map hold g.bs) ar (omega arith));
       }
 

@@ -6,7 +6,7 @@ use mathlib.Core.Bool.{Bool, false}
 use native.Mathlib.Omega.{arith}
 use native.Mathlib.Numerals.{add-one}
 use borrow.Author.Tests.{le-leb, lt-leb}
-use lib.ListN.{length, drop, set, length-append, length_map}
+use lib.ListN.{length, drop, set, length-append, length-map}
 use lib.Seq.{sets}
 use lib.Dec.{leb}
 use Rattle.terms.specs.Texts.{lines}
@@ -30,7 +30,7 @@ outcome_join ts ar j a t bs (refuse k) = refl
 outcome_join ts ar j a t bs (graph us cs) =
     rows _ _ _ _ _ _ _ _
     (rw add-one)
-    (rw (map_hold bs cs, sets_append ar a (map hold bs) (map hold cs), length_map bs hold))
+    (rw (map_hold bs cs, sets_append ar a (map hold bs) (map hold cs), length-map bs hold))
     (omega arith)
     (rw (length-append bs cs) (omega arith))
 

@@ -1,4 +1,6 @@
 // The reader of STG texts: one pass over the text, line by line, field by field. And the writer, under its public name.
+#![tactic(auto)]
+
 mod clearing;
 mod outer_lines;
 mod predecessors;

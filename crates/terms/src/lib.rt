@@ -1,4 +1,6 @@
 // The words of the planner: its kinds of number, its records and replies, its limits.
+#![tactic(auto)]
+
 ghost use Rattle.std.specs.Prelude.{◌≡◌};
 ghost use Rattle.terms.specs.Rows.{refusal_at, refusal_of};
 

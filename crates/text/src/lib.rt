@@ -1,4 +1,6 @@
 // The fields, numbers and lines of a text, from a place in it on. A place past the end is as good as the end.
+#![tactic(auto)]
+
 ghost use Rattle.std.specs.Prelude.{◌≡◌, true, ◌<◌, ◌≤◌, ◌+◌, length, drop};
 ghost use Rattle.terms.specs.Texts.{all_pass, is_blank, is_digit, value, ends_here, blanks, digits};
 ghost use Rattle.text.specs.Steps.{line_size, no_number, next_number};

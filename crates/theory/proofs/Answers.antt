@@ -26,8 +26,8 @@ one_spot (pair AreSo) p q p' q' (a, b) (c, d) = let e = one_smallest a c in (e, 
 
 one_given : (row : Row) (a b : Refusal) → Gives row a → Gives row b → a ≡ b
 one_given row a b g h =
-    let number = g.number-is ∙ sym h.number_is in
-    let spot = one_spot row.spot a.place a.second b.place b.second g.spot-is h.spot_is in
+    let number = g.number_is ∙ sym h.number_is in
+    let spot = one_spot row.spot a.place a.second b.place b.second g.spot_is h.spot_is in
     ap (λ (k : ℕ). refusal_at k a.place a.second) number ∙ ap₂ (λ (p q : ℕ). refusal_at b.number p q) spot.0 spot.1
 
 -- no second refusal

@@ -6,7 +6,7 @@ use mathlib.Core.List.{List, [], ◌∷◌, ◌++◌, map, map-map, map-append, 
 use Prim.Native.Nat.{ℕ, zero, suc, ◌+◌, ◌*◌, ◌≤◌}
 use native.Mathlib.Nat.{add-mul, one-mul}
 use native.Mathlib.Omega.{arith}
-use lib.ListN.{length, length-append, length_map}
+use lib.ListN.{length, length-append, length-map}
 use Rattle.terms.specs.Graphs.{Among, Precedes}
 use Rattle.terms.specs.Arrangements.{has_arrow, passing, predecessors_of, successors_of, is_none, lasts_of, firsts_of, for_each, out_of, sorted_by_from}
 use Rattle.terms.specs.Joins.{Graph, size, Way, end_to_end, side_by_side, moved, entered, all_arrows, joined}
@@ -154,8 +154,8 @@ each_else targets row (suc n) =
     let one = cond (is_none r) (suc n ∷ []) [] in
     let more = for_each (λ v. or_else targets (row v)) out_of n in
     let none = passing (λ v. is_none (row v)) n in
-    let here : length (map (λ i. out_of i (suc n)) (or_else targets r)) ≡ length (or_else targets r) = length_map (or_else targets r) _ in
-    let there : length (map (λ i. out_of i (suc n)) r) ≡ length r = length_map r _ in
+    let here : length (map (λ i. out_of i (suc n)) (or_else targets r)) ≡ length (or_else targets r) = length-map (or_else targets r) _ in
+    let there : length (map (λ i. out_of i (suc n)) r) ≡ length r = length-map r _ in
     let all_of : length (none ++ one) * length targets ≡ length none * length targets + length one * length targets =
     ap (λ (k : ℕ). k * length targets) (length-append none one) ∙ add-mul (length none) (length one) (length targets) in
     omega (
@@ -175,13 +175,13 @@ joined_many way a b p q =
     let second = map (moved (size a)) (sorted_by_from (size b) b.arrows) in
     let whole : length (joined way a b).arrows ≡ length first + length second = ap length (joined_rows way a b p q) ∙ length-append first second in
     let lasts = length (lasts_of (size a) a.arrows) in
-    let added : lasts * length targets ≡ lasts * length (entered way b) = ap (λ (k : ℕ). lasts * k) (length_map (entered way b) _) in
+    let added : lasts * length targets ≡ lasts * length (entered way b) = ap (λ (k : ℕ). lasts * k) (length-map (entered way b) _) in
     omega (
       arith,
       whole,
       each_else targets (successors_of (size a) a.arrows) (size a),
       added,
-      length_map (sorted_by_from (size b) b.arrows) (moved (size a)),
+      length-map (sorted_by_from (size b) b.arrows) (moved (size a)),
       (sorts_by_from a.times a.arrows p).as_many,
       (sorts_by_from b.times b.arrows q).as_many,
     )

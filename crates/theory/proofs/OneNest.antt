@@ -5,7 +5,7 @@ use mathlib.Core.List.{List, [], ◌∷◌, ◌++◌, append_assoc, append-nil}
 use Prim.Native.Nat.{ℕ, suc, ◌*◌, ◌≤◌}
 use native.Mathlib.Nat.{suc_inj}
 use native.Mathlib.Omega.{arith}
-use lib.ListN.{length, length-append, length_map}
+use lib.ListN.{length, length-append, length-map}
 use Rattle.terms.specs.Rows.{RefusedBy}
 use Rattle.terms.specs.Joins.{Way, end_to_end, side_by_side}
 use Rattle.terms.specs.Nests.{other, Members, none, graph, opener, Nest, count, work_of, path_of, kind_of, graph_entry, opener_entry, written, Ruled}
@@ -106,5 +106,5 @@ work_small (opener n m) r = omega (arith, work_small n r.1, work_small m r.2, le
 
 pub nest_small : {row : List (List ℕ)} {nest : Nest} → IsNest row nest → (path_of nest ≤ work_of nest) × (work_of nest ≤ 4278124800)
 nest_small {row} {nest} n =
-    let e : length row ≡ suc (length (written nest)) = sym (length_map row three) ∙ ap length n.fills in
+    let e : length row ≡ suc (length (written nest)) = sym (length-map row three) ∙ ap length n.fills in
     (path_work nest n.ruled, omega (arith, work_small nest n.ruled, n.short))

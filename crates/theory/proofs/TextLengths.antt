@@ -76,9 +76,9 @@ passing_further test (suc n) =
     last true = omega (arith, further_more (suc n) [], further_none)
     last false = omega (arith, further_none)
 
-length_map : (f : ℕ → List ℕ) (l : List ℕ) → length (map f l) ≡ length l
-length_map f [] = refl
-length_map f (x ∷ l) = ap suc (length_map f l)
+length-map : (f : ℕ → List ℕ) (l : List ℕ) → length (map f l) ≡ length l
+length-map f [] = refl
+length-map f (x ∷ l) = ap suc (length-map f l)
 
 pub each_length : (row : ℕ → List ℕ) (arrow : ℕ → ℕ → List ℕ) (n : ℕ) → length (for_each row arrow n) ≡ sum n (λ i. length (row (suc i)))
 unfolding for_each sum
@@ -87,7 +87,7 @@ each_length row arrow (suc n) = omega (
   arith,
   length-append (for_each row arrow n) (map (λ i. arrow i (suc n)) (row (suc n))),
   each_length row arrow n,
-  length_map (λ i. arrow i (suc n)) (row (suc n)),
+  length-map (λ i. arrow i (suc n)) (row (suc n)),
 )
 
 -- ---- the subtasks' lines

@@ -1,4 +1,6 @@
 // Runs the planner on the outside texts of data/ and compares what it says with the stored outputs.
+#![tactic(auto)]
+
 mod stored;
 
 ghost use Rattle.std.specs.Prelude.{◌≤◌, length};

@@ -1,4 +1,6 @@
 // The STG text of a graph, written into a lent room.
+#![tactic(auto)]
+
 mod lines;
 mod rows;
 mod sizes;

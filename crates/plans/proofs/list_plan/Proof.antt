@@ -1,7 +1,7 @@
 -- `plans::list_plan` meets its contract: a walk of its MIR, by hand. All that it knows of `draft_plan` and `copy_out` is that each meets its contract.
 -- The row is given up for good to `copy_out` (`gave_slice`), which says its last list.
 -- Assumes nothing.
-use Rattle.plans.proofs.Walking.{◌≡◌, refl, sym, subst, ◌∙◌, ap, ℕ, ◌<◌, ◌≤◌, ◌^◌, List, [], ◌∷◌, map, length, length_map, Ura, full_share, Val, fat}
+use Rattle.plans.proofs.Walking.{◌≡◌, refl, sym, subst, ◌∙◌, ap, ℕ, ◌<◌, ◌≤◌, ◌^◌, List, [], ◌∷◌, map, length, length-map, Ura, full_share, Val, fat}
 use Rattle.plans.proofs.Walking.{WpFn, Tables, ‵, ◌$◌, move, rewrite, fsplit, feq_l, ◌∵◌, !, by, keep, group, look, stop, from}
 use Rattle.plans.proofs.Walking.{load, and_then, hop, fld, addr, of_opd, returns, enter, params1, pass0, no_more, each, SProp, emp, id⊢, via, fst∗}
 use Rattle.plans.proofs.Walking.{Lfts, Shares, Fun, fact_i, Is, nothing, owned, only, Args, Clauses, Meets, walk_of, Nothing-Lawful, finally, Memory}
@@ -47,7 +47,7 @@ on-its-own (x ∷ xs) (u ∷ us) s = (s.0, on-its-own xs us s.1)
 table_is : (d : Draft) (vs : List Val) → Is D.the_row d vs → Is Table d.entries (tv d ∷ [])
 table_is d vs is =
     let f = (LL.owed D.the_type D'.the_laws d vs is).1.0 in
-    (f.0, ((f.1.0.0, sym (length_map d.entries (T.the_field).into) ∙ f.1.0.1), on-its-own d.entries f.0 f.1.1))
+    (f.0, ((f.1.0.0, sym (length-map d.entries (T.the_field).into) ∙ f.1.0.1), on-its-own d.entries f.0 f.1.1))
 
 module _ {M : Type 1} {𝓤 : Ura M} (𝓛 : Logic 𝓤) (mem : Memory → SProp 𝓤) (run : Routine → Fun 𝓤) (𝓣 : Tables 𝓤 𝓛.H)
     (known-decide : Known 𝓛 𝓣.C decide-def.name decide.ended (decide.clauses 𝓛 mem run))
