@@ -6,7 +6,7 @@ use lib.ListN.{length, get_or}
 use Rattle.inputs.proofs.order_by_number.Given as goal
 
 -- the places below j hold their numbers
-abbrev Filled : List ℕ → ℕ → Type 0
+abbrev pub Filled : List ℕ → ℕ → Type 0
 Filled order j = (i : ℕ) → i < j → get_or order i 0 ≡ i + 1
 
 abbrev pub invariant-loop-j : goal.invariant-loop-j
