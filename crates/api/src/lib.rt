@@ -22,7 +22,7 @@ use verdict::judge;
 
 // Why a call was refused: its number, its place and its second number.
 #[repr(C)]
-#[derive(Drop)]
+#[derive(Clone, Copy)]
 pub struct FlatRefusal {
     pub number: u32,
     pub place: u32,
@@ -31,7 +31,7 @@ pub struct FlatRefusal {
 
 // C or P.
 #[repr(C)]
-#[derive(Drop)]
+#[derive(Clone, Copy)]
 pub struct FlatAmount {
     pub refusal: FlatRefusal,
     pub value: u32,
@@ -39,7 +39,7 @@ pub struct FlatAmount {
 
 // C and P.
 #[repr(C)]
-#[derive(Drop)]
+#[derive(Clone, Copy)]
 pub struct FlatMeasure {
     pub refusal: FlatRefusal,
     pub c: u32,
@@ -48,7 +48,7 @@ pub struct FlatMeasure {
 
 // C, P, S and the load; fits 1: the margin is the spare, fits 0: it is the shortfall, in microseconds.
 #[repr(C)]
-#[derive(Drop)]
+#[derive(Clone, Copy)]
 pub struct FlatAnswer {
     pub refusal: FlatRefusal,
     pub c: u32,
@@ -61,7 +61,7 @@ pub struct FlatAnswer {
 
 // Where a plan ends.
 #[repr(C)]
-#[derive(Drop)]
+#[derive(Clone, Copy)]
 pub struct FlatEnd {
     pub refusal: FlatRefusal,
     pub end: u32,
@@ -69,7 +69,7 @@ pub struct FlatEnd {
 
 // How many subtasks and arrows a text or a joined graph has.
 #[repr(C)]
-#[derive(Drop)]
+#[derive(Clone, Copy)]
 pub struct FlatCounts {
     pub refusal: FlatRefusal,
     pub subtasks: u32,
@@ -78,7 +78,7 @@ pub struct FlatCounts {
 
 // How many bytes were written.
 #[repr(C)]
-#[derive(Drop)]
+#[derive(Clone, Copy)]
 pub struct FlatWritten {
     pub refusal: FlatRefusal,
     pub bytes: u32,

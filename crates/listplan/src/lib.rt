@@ -21,7 +21,7 @@ use inputs::usize_from_u32;
 use terms::{Check, Entry, PlanEnd, Refusal, refuse};
 
 // What the list plan replies, and the entries to be written: the first n of the table, none with a refusal.
-#[derive(Drop)]
+#[derive(Clone, Copy)]
 pub struct Draft {
     pub reply: PlanEnd,
     pub entries: [Entry; 256],

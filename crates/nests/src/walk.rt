@@ -6,7 +6,7 @@ ghost use Rattle.nests.specs.Walks.{CountsAt, GraphAt, OpenerAt};
 use inputs::larger;
 
 // How far a walk came, and C and P of what it went over; `next` is 0 where the row breaks a rule.
-#[derive(Drop)]
+#[derive(Clone, Copy)]
 pub struct Walk {
     pub next: usize,
     pub c: u32,

@@ -24,7 +24,7 @@ use graph::check_on;
 use terms::{Check, Entry, PlanEnd, Subtask, refuse, refuse_at, refuse_pair};
 
 // Two subtasks, by their numbers.
-#[derive(Drop)]
+#[derive(Clone, Copy)]
 struct Pair {
     lower: Subtask,
     higher: Subtask,

@@ -10,7 +10,7 @@ use terms::{Check, Refusal, refuse};
 use text::{Next, line_after, next_number};
 
 // The place where the next line begins.
-#[derive(Drop)]
+#[derive(Clone, Copy)]
 pub enum Passage {
     Refused(Refusal),
     Passed(usize),

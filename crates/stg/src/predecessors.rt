@@ -7,7 +7,7 @@ use text::{Next, next_number};
 
 // The rest of a line: how many numbers it has, whether they are all below the task's index, how many arrows there are then, and where the
 // next line begins.
-#[derive(Drop)]
+#[derive(Clone, Copy)]
 pub struct Rest {
     pub count: usize,
     pub below: bool,
@@ -15,7 +15,7 @@ pub struct Rest {
     pub next: usize,
 }
 
-#[derive(Drop)]
+#[derive(Clone, Copy)]
 pub enum Predecessors {
     Misshapen,
     Are(Rest),

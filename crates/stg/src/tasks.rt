@@ -7,7 +7,7 @@ use terms::{Refusal, refuse};
 use text::{Next, next_number};
 
 // A task's line: its time, whether its predecessors are all below its index, how many arrows there are then, and where the next line begins.
-#[derive(Drop)]
+#[derive(Clone, Copy)]
 pub struct TaskLine {
     pub time: usize,
     pub below: bool,
@@ -15,20 +15,20 @@ pub struct TaskLine {
     pub next: usize,
 }
 
-#[derive(Drop)]
+#[derive(Clone, Copy)]
 pub enum Task {
     Misshapen,
     Is(TaskLine),
 }
 
 // How far the text is read: how many subtasks, or arrows, there are so far, and where the next line begins.
-#[derive(Drop)]
+#[derive(Clone, Copy)]
 pub struct Progress {
     pub count: usize,
     pub next: usize,
 }
 
-#[derive(Drop)]
+#[derive(Clone, Copy)]
 pub enum Step {
     Refused(Refusal),
     Counted(Progress),

@@ -21,16 +21,16 @@ pub const LATEST_START: u32 = 16776960;
 pub const LONGEST_TEXT: usize = 60000;
 
 // The number of a subtask, from 1 on. A machine word, so that a number out of a text or a row of any width is one without loss.
-#[derive(Drop)]
+#[derive(Clone, Copy)]
 pub struct Subtask(pub usize);
 
 // The number of a processor, from 1 on; 0 in a plan in the making stands for "not placed".
 #[repr(C)]
-#[derive(Drop)]
+#[derive(Clone, Copy)]
 pub struct Processor(pub u8);
 
 // An arrow: `to` starts when `from` has ended.
-#[derive(Drop)]
+#[derive(Clone, Copy)]
 pub struct Arrow {
     pub from: Subtask,
     pub to: Subtask,
@@ -38,14 +38,14 @@ pub struct Arrow {
 
 // What a plan holds for one subtask.
 #[repr(C)]
-#[derive(Drop)]
+#[derive(Clone, Copy)]
 pub struct Entry {
     pub processor: Processor,
     pub start: u32,
 }
 
 // Why an input was refused: the number in the table of refusals, the place that goes with it, and where that is of two the second; else 0.
-#[derive(Drop)]
+#[derive(Clone, Copy)]
 pub struct Refusal {
     pub number: u8,
     pub place: u32,
@@ -78,34 +78,34 @@ pub fn refuse_pair(number: u8, place: u32, second: u32) -> Refusal
 }
 
 // Whether an input is accepted.
-#[derive(Drop)]
+#[derive(Clone, Copy)]
 pub enum Check {
     Sound,
     Refused(Refusal),
 }
 
 // C and P of a graph, together.
-#[derive(Drop)]
+#[derive(Clone, Copy)]
 pub struct Weights {
     pub c: u32,
     pub p: u32,
 }
 
-#[derive(Drop)]
+#[derive(Clone, Copy)]
 pub enum Measure {
     Is(Weights),
     Refused(Refusal),
 }
 
 // C or P, asked for alone.
-#[derive(Drop)]
+#[derive(Clone, Copy)]
 pub enum Amount {
     Is(u32),
     Refused(Refusal),
 }
 
 // The figures of a graph on M processors against a deadline: C, P, S and the load.
-#[derive(Drop)]
+#[derive(Clone, Copy)]
 pub struct Figures {
     pub c: u32,
     pub p: u32,
@@ -114,48 +114,48 @@ pub struct Figures {
 }
 
 // Fits, with the spare; or late, with the shortfall; in microseconds.
-#[derive(Drop)]
+#[derive(Clone, Copy)]
 pub enum Verdict {
     Fits(u32),
     Late(u32),
 }
 
-#[derive(Drop)]
+#[derive(Clone, Copy)]
 pub enum Outcome {
     Judged(Verdict),
     Refused(Refusal),
 }
 
 // The answer to a deadline question.
-#[derive(Drop)]
+#[derive(Clone, Copy)]
 pub struct Answer {
     pub figures: Figures,
     pub outcome: Outcome,
 }
 
 // The reply of the list plan and of the plan check: where the plan ends.
-#[derive(Drop)]
+#[derive(Clone, Copy)]
 pub enum PlanEnd {
     Ends(u32),
     Refused(Refusal),
 }
 
 // How many subtasks and arrows a text has.
-#[derive(Drop)]
+#[derive(Clone, Copy)]
 pub struct GraphSize {
     pub subtasks: usize,
     pub arrows: usize,
 }
 
 // The reader's reply.
-#[derive(Drop)]
+#[derive(Clone, Copy)]
 pub enum Counts {
     Read(GraphSize),
     Refused(Refusal),
 }
 
 // The writer's reply: how many bytes it wrote.
-#[derive(Drop)]
+#[derive(Clone, Copy)]
 pub enum Written {
     Bytes(usize),
     Refused(Refusal),

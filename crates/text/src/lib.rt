@@ -8,7 +8,7 @@ ghost use Rattle.text.specs.Steps.{line_size, no_number, next_number};
 use inputs::usize_from_u8;
 
 // What stands next on a line: its end, and where the next line begins; a piece that is no number; or a number, and the place behind it.
-#[derive(Drop)]
+#[derive(Clone, Copy)]
 pub enum Next {
     LineEnd(usize),
     Misshapen,

@@ -8,7 +8,7 @@ use terms::{Counts, Outcome, PlanEnd, Refusal, Verdict, Written};
 use verdict::judge;
 
 // A number of a stored output, and the place behind the byte after it.
-#[derive(Drop)]
+#[derive(Clone, Copy)]
 pub struct Stored {
     pub value: u32,
     pub next: usize,
@@ -32,7 +32,7 @@ fn number_at(output: &[u8], at: usize) -> Stored {
 }
 
 // The figures of one line, as they were stored.
-#[derive(Drop)]
+#[derive(Clone, Copy)]
 pub struct Line {
     pub m: u32,
     pub c: u32,

@@ -5,7 +5,6 @@ use mathlib.Core.List.{List}
 use Prim.Native.Nat.{ℕ}
 use native.Mathlib.Omega.{arith}
 use lib.ListN.{length}
-use borrow.Author.Rules.{rules}
 use Rattle.terms.specs.Rows.{Accepted, RefusedBy, refusal_at, refusal_of}
 use Rattle.terms.specs.Graphs.{Among, time_of}
 use Rattle.terms.specs.Refusals.{count_rows, time_rows, subtask_rows}
@@ -16,8 +15,7 @@ use Rattle.theory.proofs.Answers.{Passed, begin, past, stop_with, done}
 use Rattle.theory.proofs.Stops.{subtask_at_lem, stop_subtask}
 use Rattle.limits.specs.Times.{Noughts}
 use Rattle.limits.proofs.Noughts.{noughts_no}
-use Rattle.limits.proofs.check_subtasks.Statement.{statement}
-use Rattle.limits.proofs.check_subtasks.Tie as tie
+use Rattle.limits.proofs.check_subtasks.Goals as goal
 
 module _ (times : List ℕ) where
   refused-1 : {r : Refusal} → ¬ Among 1 256 (length times) → r ≡ refusal_of 1 → RefusedBy (subtask_rows times) r
@@ -40,57 +38,22 @@ module _ (times : List ℕ) where
     unfolding time_rows
     accepted-2 z = done (past counted (λ h. noughts_no n z h.subtask h.is_subtask h.is_so))
 
-refuse-requires : tie.Need-refuse-requires
-refuse-requires c κs = search rules
-
-returns : tie.Need-returns
+pub returns-then-n-lt1 : goal.returns-then-n-lt1
 unfolding IsCheck
-returns c = refused-1 _ (λ h. omega (arith, h.low, c.before.if1.true)) c.refuse.ensures
+returns-then-n-lt1 c = refused-1 _ (λ h. omega (arith, h.low, c.if-n-lt1.true)) c.refuse.ensures
 
-refuse-requires-2 : tie.Need-refuse-requires-2
-refuse-requires-2 c κs = search rules
-
-returns-2 : tie.Need-returns-2
+pub returns-then-n-gt-MOST_SUBTASKS : goal.returns-then-n-gt-MOST_SUBTASKS
 unfolding IsCheck
-returns-2 c = refused-1 _ (λ h. omega (arith, h.high, c.before.if2.true)) c.refuse2.ensures
+returns-then-n-gt-MOST_SUBTASKS c = refused-1 _ (λ h. omega (arith, h.high, c.if-n-gt-MOST_SUBTASKS.true)) c.refuse-then-n-gt-MOST_SUBTASKS.ensures
 
-count : (c : tie.After-without-time) → Among 1 256 (length c.before.before.before.before.args.times.now)
-count c = record { low = omega arith; high = omega arith }
+pub overflow_cast-first : goal.overflow_cast-first
+overflow_cast-first c = omega (arith, c.first_without_time-first.ensures.within)
 
-without-time-requires : tie.Need-without-time-requires
-without-time-requires c κs = search rules
-
-first-without-time-requires : tie.Need-first-without-time-requires
-first-without-time-requires c κs = search rules
-
-cast-refuse-at : tie.Need-overflow-cast-refuse-at
-cast-refuse-at c = omega (arith, c.before.first-without-time.ensures.within, (count c.before.before.before).high)
-
-refuse-at-requires : tie.Need-refuse-at-requires
-refuse-at-requires c κs = search rules
-
-returns-3 : tie.Need-returns-3
+pub returns-then-without_time-ne0 : goal.returns-then-without_time-ne0
 unfolding IsCheck
-returns-3 c =
-    let found = c.before.before in
-    let tested = found.before.before in
-    refused-2 _ (count tested) tested.without-time.ensures found.first-without-time.ensures found.before.if3.true c.refuse-at.ensures
+returns-then-without_time-ne0 c =
+    refused-2 _ (record { low = omega arith; high = omega arith }) c.without_time.ensures c.first_without_time-first.ensures c.if-without_time-ne0.true c.refuse_at.ensures
 
-returns-4 : tie.Need-returns-4
+pub returns : goal.returns
 unfolding IsCheck
-returns-4 c = accepted-2 _ (count c.before) c.before.without-time.ensures c.if3.false
-
-pub check-subtasks-spec : {M : Type 1} → statement M
-check-subtasks-spec =
-    tie.close
-    (tie.spec
-    refuse-requires
-    returns
-    refuse-requires-2
-    returns-2
-    without-time-requires
-    first-without-time-requires
-    cast-refuse-at
-    refuse-at-requires
-    returns-3
-    returns-4)
+returns c = accepted-2 _ (record { low = omega arith; high = omega arith }) c.without_time.ensures c.if-without_time-ne0.false
