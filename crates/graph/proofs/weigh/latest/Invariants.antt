@@ -1,0 +1,9 @@
+-- `latest`: the answer is the largest finish of the predecessors. Assumes nothing.
+use Rattle.graph.proofs.PathWeights.{LookedAt}
+use Rattle.graph.proofs.weigh.latest.Given as goal
+
+abbrev pub invariant-loop-c : goal.invariant-loop-c
+invariant-loop-c l = LookedAt l.initial.n l.initial.arrows l.initial.first l.initial.next l.initial.finish l.initial.to l.c l.most
+
+abbrev pub decreases-loop-c : goal.decreases-loop-c
+decreases-loop-c l = l.c
