@@ -1,6 +1,6 @@
 -- What the scans over the subtasks answer.
 use Rattle.std.specs.Prelude.{◌≡◌, List, ℕ, suc, ◌≤◌, ◌<◌, length, get_or}
-use Rattle.std.proofs.Math.Logic.{Dec·and}
+use Rattle.std.proofs.Math.Logic.{Dec.and}
 use Rattle.std.proofs.Math.Decide.{dec_le, dec_lt}
 use Rattle.terms.specs.Graphs.{Among, IsSubtask}
 use Rattle.terms.specs.Sums.{sum}
@@ -28,7 +28,7 @@ pub record FirstClash (times procs starts : List ℕ) (pair : Pair) : Type 0 whe
 
 -- 1 where s ≤ t < e, else 0
 unfoldable pub runs_in : ℕ → ℕ → ℕ → ℕ
-runs_in s e t = bit (Dec·and (dec_le s t) (dec_lt t e))
+runs_in s e t = bit (Dec.and (dec_le s t) (dec_lt t e))
 
 -- how many of the first k subtasks run at t
 unfoldable pub running_among : List ℕ → List ℕ → ℕ → ℕ → ℕ

@@ -1,0 +1,20 @@
+-- `first_early`: the first subtask that starts before the latest end of a predecessor. Assumes nothing.
+use native.Mathlib.Omega.{arith}
+use Rattle.theory.proofs.Firsts.{first_here, first_none}
+use borrow.Author.Count.{below_more}
+use Rattle.plancheck.proofs.scan.first_early.Goals as goal
+
+pub loop-j-init : goal.loop-j-init
+loop-j-init c = (omega arith, λ k l. absurd (omega arith))
+
+pub returns-then-start_of-ready : goal.returns-then-start_of-ready
+returns-then-start_of-ready c =
+    first_here _ _ _ c.loop-j-test.true c.loop-j.invariant.1 (omega arith)
+
+pub loop-j-preserved : goal.loop-j-preserved
+loop-j-preserved c =
+    (omega arith, below_more _ _ c.loop-j.invariant.1 (λ h. omega arith))
+
+pub returns : goal.returns
+returns c =
+    first_none _ _ _ c.loop-j.invariant.1 c.loop-j-test.false

@@ -1,0 +1,8 @@
+-- `refused`: the answer with a refusal has no figures. Assumes nothing.
+use mathlib.Core.Path.{refl}
+use lib.Ieee.{of_bits}
+use Rattle.verdict.proofs.refused.Goals as goal
+
+pub returns : goal.returns
+unfolding of_bits
+returns c = (refl, refl)
