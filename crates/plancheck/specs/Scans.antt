@@ -1,6 +1,6 @@
 -- What the scans over the subtasks answer.
 use Rattle.std.specs.Prelude.{◌≡◌, List, ℕ, suc, ◌≤◌, ◌<◌, length, get_or}
-use Rattle.std.proofs.Math.Logic.{Dec.and}
+use Rattle.std.proofs.Math.Logic.Dec
 use Rattle.std.proofs.Math.Decide.{dec_le, dec_lt}
 use Rattle.terms.specs.Graphs.{Among, IsSubtask}
 use Rattle.terms.specs.Sums.{sum}

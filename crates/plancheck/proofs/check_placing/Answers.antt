@@ -1,6 +1,4 @@
 -- `check_placing`: the first row of 13 to 17 that holds of a plan in two rows. Assumes nothing.
--- ---- what the tests that did not hold leave known
--- ---- the needs
 use mathlib.Core.Path.{refl}
 use Prim.Native.Nat.{ℕ, ◌-◌, ◌≤◌}
 use native.Mathlib.Omega.{arith}
@@ -14,11 +12,6 @@ use Rattle.plancheck.specs.Sweeps.{ApartAndBusy}
 use Rattle.plancheck.proofs.SubtaskTests.{Prepared, answer_13, placed_by, answer_14, timed_by, answer_15, prepared_by}
 use Rattle.plancheck.proofs.ProcessorTests.{answer_16, sound_pairs, answer_17, busy_instants, sweepable, busy_swept, accepted_busy}
 use Rattle.plancheck.proofs.check_placing.Goals as goal
-
--- after 13
-placed : (c : goal.Else-misplaced-ne0) (j : ℕ) → IsSubtask c.before.before.before.before.before.before.args.times.now j
-    → Among 1 c.before.before.before.before.before.before.args.m (item_of c.before.before.before.before.before.before.args.procs.now j)
-placed c = placed_by c.before.before.before.before.before.before.requires c.before.before.first_misplaced-misplaced.ensures c.if-misplaced-ne0.false
 
 pub overflow_cast-misplaced : goal.overflow_cast-misplaced
 overflow_cast-misplaced c =
@@ -36,14 +29,14 @@ overflow_cast-late c =
 pub returns-then-late-ne0 : goal.returns-then-late-ne0
 unfolding IsCheck
 returns-then-late-ne0 c =
-    let c-placed = placed c.before.before.before.before.before in
+    let c-placed = placed_by c.requires c.first_misplaced-misplaced.ensures c.if-misplaced-ne0.false in
     answer_14 c.requires c-placed c.first_late-late.ensures c.if-late-ne0.true c.refuse_at-then-late-ne0.ensures
 
 pub latest_ends-requires : goal.latest_ends-requires
 latest_ends-requires c =
     -- after 14
     let timed : Timed c.args.times.now c.args.starts.now =
-    let c-placed = placed c.before.before.before in
+    let c-placed = placed_by c.requires c.first_misplaced-misplaced.ensures c.if-misplaced-ne0.false in
     timed_by c.requires c-placed c.first_late-late.ensures c.if-late-ne0.false in
     (c.requires.graph, timed, refl)
 
@@ -55,7 +48,7 @@ pub overflow_cast-early : goal.overflow_cast-early
 overflow_cast-early c =
     -- after 14
     let timed : Timed c.args.times.now c.args.starts.now =
-    let c-placed = placed c.before.before.before in
+    let c-placed = placed_by c.requires c.first_misplaced-misplaced.ensures c.if-misplaced-ne0.false in
     timed_by c.requires c-placed c.first_late-late.ensures c.if-late-ne0.false in
     let c-timed = timed in
     omega (arith, c.first_early-early.ensures.within, c-timed.long, c-timed.few)
@@ -65,9 +58,9 @@ unfolding IsCheck
 returns-then-early-ne0 c =
     -- after 14
     let timed : Timed c.args.times.now c.args.starts.now =
-    let c-placed = placed c.before.before.before in
+    let c-placed = placed_by c.requires c.first_misplaced-misplaced.ensures c.if-misplaced-ne0.false in
     timed_by c.requires c-placed c.first_late-late.ensures c.if-late-ne0.false in
-    let c-placed = placed c.before.before.before.before.before.before.before.before.before.before.before in
+    let c-placed = placed_by c.requires c.first_misplaced-misplaced.ensures c.if-misplaced-ne0.false in
     let c-timed = timed in
     answer_15 c.requires c-placed c-timed c.latest_ends.ensures c.first_early-early.ensures c.if-early-ne0.true c.refuse_at-then-early-ne0.ensures
 
@@ -75,11 +68,11 @@ pub passes_sweep-requires : goal.passes_sweep-requires
 passes_sweep-requires c =
     -- after 14
     let timed : Timed c.args.times.now c.args.starts.now =
-    let c-placed = placed c.before.before.before in
+    let c-placed = placed_by c.requires c.first_misplaced-misplaced.ensures c.if-misplaced-ne0.false in
     timed_by c.requires c-placed c.first_late-late.ensures c.if-late-ne0.false in
     -- after 15
     let known : Prepared c.args.times.now c.args.arrows.now c.args.m c.args.procs.now c.args.starts.now c.latest_ends.new.1.1.1.0 =
-    let c-placed = placed c.before.before.before.before.before.before.before.before.before in
+    let c-placed = placed_by c.requires c.first_misplaced-misplaced.ensures c.if-misplaced-ne0.false in
     let c-timed = timed in
     prepared_by c.requires c-placed c-timed c.latest_ends.ensures c.first_early-early.ensures c.if-early-ne0.false in
     sweepable known
@@ -89,11 +82,11 @@ unfolding IsCheck
 returns-then-passes_sweep c =
     -- after 14
     let timed : Timed c.args.times.now c.args.starts.now =
-    let c-placed = placed c.before.before.before in
+    let c-placed = placed_by c.requires c.first_misplaced-misplaced.ensures c.if-misplaced-ne0.false in
     timed_by c.requires c-placed c.first_late-late.ensures c.if-late-ne0.false in
     -- after 15
     let known : Prepared c.args.times.now c.args.arrows.now c.args.m c.args.procs.now c.args.starts.now c.latest_ends.new.1.1.1.0 =
-    let c-placed = placed c.before.before.before.before.before.before.before.before.before in
+    let c-placed = placed_by c.requires c.first_misplaced-misplaced.ensures c.if-misplaced-ne0.false in
     let c-timed = timed in
     prepared_by c.requires c-placed c-timed c.latest_ends.ensures c.first_early-early.ensures c.if-early-ne0.false in
     -- what a sweep that comes to its end shows
@@ -106,11 +99,11 @@ pub first_sharing-pair-requires : goal.first_sharing-pair-requires
 first_sharing-pair-requires c =
     -- after 14
     let timed : Timed c.args.times.now c.args.starts.now =
-    let c-placed = placed c.before.before.before in
+    let c-placed = placed_by c.requires c.first_misplaced-misplaced.ensures c.if-misplaced-ne0.false in
     timed_by c.requires c-placed c.first_late-late.ensures c.if-late-ne0.false in
     -- after 15
     let known : Prepared c.args.times.now c.args.arrows.now c.args.m c.args.procs.now c.args.starts.now c.latest_ends.new.1.1.1.0 =
-    let c-placed = placed c.before.before.before.before.before.before.before.before.before in
+    let c-placed = placed_by c.requires c.first_misplaced-misplaced.ensures c.if-misplaced-ne0.false in
     let c-timed = timed in
     prepared_by c.requires c-placed c-timed c.latest_ends.ensures c.first_early-early.ensures c.if-early-ne0.false in
     let c-known = known in
@@ -120,11 +113,11 @@ pub overflow_cast-lower : goal.overflow_cast-lower
 overflow_cast-lower c =
     -- after 14
     let timed : Timed c.args.times.now c.args.starts.now =
-    let c-placed = placed c.before.before.before in
+    let c-placed = placed_by c.requires c.first_misplaced-misplaced.ensures c.if-misplaced-ne0.false in
     timed_by c.requires c-placed c.first_late-late.ensures c.if-late-ne0.false in
     -- after 15
     let known : Prepared c.args.times.now c.args.arrows.now c.args.m c.args.procs.now c.args.starts.now c.latest_ends.new.1.1.1.0 =
-    let c-placed = placed c.before.before.before.before.before.before.before.before.before in
+    let c-placed = placed_by c.requires c.first_misplaced-misplaced.ensures c.if-misplaced-ne0.false in
     let c-timed = timed in
     prepared_by c.requires c-placed c-timed c.latest_ends.ensures c.first_early-early.ensures c.if-early-ne0.false in
     -- both numbers of the pair are those of subtasks
@@ -138,11 +131,11 @@ pub overflow_cast-higher : goal.overflow_cast-higher
 overflow_cast-higher c =
     -- after 14
     let timed : Timed c.args.times.now c.args.starts.now =
-    let c-placed = placed c.before.before.before in
+    let c-placed = placed_by c.requires c.first_misplaced-misplaced.ensures c.if-misplaced-ne0.false in
     timed_by c.requires c-placed c.first_late-late.ensures c.if-late-ne0.false in
     -- after 15
     let known : Prepared c.args.times.now c.args.arrows.now c.args.m c.args.procs.now c.args.starts.now c.latest_ends.new.1.1.1.0 =
-    let c-placed = placed c.before.before.before.before.before.before.before.before.before in
+    let c-placed = placed_by c.requires c.first_misplaced-misplaced.ensures c.if-misplaced-ne0.false in
     let c-timed = timed in
     prepared_by c.requires c-placed c-timed c.latest_ends.ensures c.first_early-early.ensures c.if-early-ne0.false in
     -- both numbers of the pair are those of subtasks
@@ -157,11 +150,11 @@ unfolding IsCheck
 returns-then-lower-ne0 c =
     -- after 14
     let timed : Timed c.args.times.now c.args.starts.now =
-    let c-placed = placed c.before.before.before in
+    let c-placed = placed_by c.requires c.first_misplaced-misplaced.ensures c.if-misplaced-ne0.false in
     timed_by c.requires c-placed c.first_late-late.ensures c.if-late-ne0.false in
     -- after 15
     let known : Prepared c.args.times.now c.args.arrows.now c.args.m c.args.procs.now c.args.starts.now c.latest_ends.new.1.1.1.0 =
-    let c-placed = placed c.before.before.before.before.before.before.before.before.before in
+    let c-placed = placed_by c.requires c.first_misplaced-misplaced.ensures c.if-misplaced-ne0.false in
     let c-timed = timed in
     prepared_by c.requires c-placed c-timed c.latest_ends.ensures c.first_early-early.ensures c.if-early-ne0.false in
     let c-known = known in
@@ -171,11 +164,11 @@ pub earliest_idle-instant-requires : goal.earliest_idle-instant-requires
 earliest_idle-instant-requires c =
     -- after 14
     let timed : Timed c.args.times.now c.args.starts.now =
-    let c-placed = placed c.before.before.before in
+    let c-placed = placed_by c.requires c.first_misplaced-misplaced.ensures c.if-misplaced-ne0.false in
     timed_by c.requires c-placed c.first_late-late.ensures c.if-late-ne0.false in
     -- after 15
     let known : Prepared c.args.times.now c.args.arrows.now c.args.m c.args.procs.now c.args.starts.now c.latest_ends.new.1.1.1.0 =
-    let c-placed = placed c.before.before.before.before.before.before.before.before.before in
+    let c-placed = placed_by c.requires c.first_misplaced-misplaced.ensures c.if-misplaced-ne0.false in
     let c-timed = timed in
     prepared_by c.requires c-placed c-timed c.latest_ends.ensures c.first_early-early.ensures c.if-early-ne0.false in
     let c-known = known in
@@ -186,11 +179,11 @@ unfolding IsCheck
 returns-then-instant-lt-NEVER c =
     -- after 14
     let timed : Timed c.args.times.now c.args.starts.now =
-    let c-placed = placed c.before.before.before in
+    let c-placed = placed_by c.requires c.first_misplaced-misplaced.ensures c.if-misplaced-ne0.false in
     timed_by c.requires c-placed c.first_late-late.ensures c.if-late-ne0.false in
     -- after 15
     let known : Prepared c.args.times.now c.args.arrows.now c.args.m c.args.procs.now c.args.starts.now c.latest_ends.new.1.1.1.0 =
-    let c-placed = placed c.before.before.before.before.before.before.before.before.before in
+    let c-placed = placed_by c.requires c.first_misplaced-misplaced.ensures c.if-misplaced-ne0.false in
     let c-timed = timed in
     prepared_by c.requires c-placed c-timed c.latest_ends.ensures c.first_early-early.ensures c.if-early-ne0.false in
     -- after 16
@@ -206,11 +199,11 @@ unfolding IsCheck time_of
 returns c =
     -- after 14
     let timed : Timed c.args.times.now c.args.starts.now =
-    let c-placed = placed c.before.before.before in
+    let c-placed = placed_by c.requires c.first_misplaced-misplaced.ensures c.if-misplaced-ne0.false in
     timed_by c.requires c-placed c.first_late-late.ensures c.if-late-ne0.false in
     -- after 15
     let known : Prepared c.args.times.now c.args.arrows.now c.args.m c.args.procs.now c.args.starts.now c.latest_ends.new.1.1.1.0 =
-    let c-placed = placed c.before.before.before.before.before.before.before.before.before in
+    let c-placed = placed_by c.requires c.first_misplaced-misplaced.ensures c.if-misplaced-ne0.false in
     let c-timed = timed in
     prepared_by c.requires c-placed c-timed c.latest_ends.ensures c.first_early-early.ensures c.if-early-ne0.false in
     -- after 16
