@@ -106,7 +106,6 @@ planned-requires c =
     said (contrary c.is_order.result c.if-not-is_order.false) c.is_order.ensures in
     let few : length c.args.times.now ≤ 256 =
     (sound_on _ _ _ accepted).0.count.high in
-    let order = accepts c.before.before in
     let graph = sound_on _ _ _ accepted in
     let noughts = take_noughts _ 256 few in
     record { sound_graph = (graph.0, rw c.usize_from_u32.ensures graph.1, ordered); processors_value = (noughts, noughts) }
@@ -117,5 +116,4 @@ returns c =
     told_sound _ _ _ c.in-Sound.is c.check_on.ensures in
     let ordered : IsOrder c.args.times.now c.args.order.now =
     said (contrary c.is_order.result c.if-not-is_order.false) c.is_order.ensures in
-    let order = accepts c.before.before.before.before.before in
     planned_draft _ _ _ _ _ accepted ordered c.if-room-n.false (rw c.usize_from_u32.ensures at c.planned.ensures)

@@ -71,7 +71,7 @@ passes_sweep-requires c =
     let c-placed = placed_by c.requires c.first_misplaced-misplaced.ensures c.if-misplaced-ne0.false in
     timed_by c.requires c-placed c.first_late-late.ensures c.if-late-ne0.false in
     -- after 15
-    let known : Prepared c.args.times.now c.args.arrows.now c.args.m c.args.procs.now c.args.starts.now c.latest_ends.new.1.1.1.0 =
+    let known : Prepared c.args.times.now c.args.arrows.now c.args.m c.args.procs.now c.args.starts.now c.latest_ends.new.ready =
     let c-placed = placed_by c.requires c.first_misplaced-misplaced.ensures c.if-misplaced-ne0.false in
     let c-timed = timed in
     prepared_by c.requires c-placed c-timed c.latest_ends.ensures c.first_early-early.ensures c.if-early-ne0.false in
@@ -85,12 +85,12 @@ returns-then-passes_sweep c =
     let c-placed = placed_by c.requires c.first_misplaced-misplaced.ensures c.if-misplaced-ne0.false in
     timed_by c.requires c-placed c.first_late-late.ensures c.if-late-ne0.false in
     -- after 15
-    let known : Prepared c.args.times.now c.args.arrows.now c.args.m c.args.procs.now c.args.starts.now c.latest_ends.new.1.1.1.0 =
+    let known : Prepared c.args.times.now c.args.arrows.now c.args.m c.args.procs.now c.args.starts.now c.latest_ends.new.ready =
     let c-placed = placed_by c.requires c.first_misplaced-misplaced.ensures c.if-misplaced-ne0.false in
     let c-timed = timed in
     prepared_by c.requires c-placed c-timed c.latest_ends.ensures c.first_early-early.ensures c.if-early-ne0.false in
     -- what a sweep that comes to its end shows
-    let swept : ApartAndBusy c.args.times.now c.args.m c.args.procs.now c.args.starts.now c.latest_ends.new.1.1.1.0 =
+    let swept : ApartAndBusy c.args.times.now c.args.m c.args.procs.now c.args.starts.now c.latest_ends.new.ready =
     shown c.if-passes_sweep.true c.passes_sweep.ensures in
     let c-known = known in
     accepted_busy c-known (busy_swept c-known swept)
@@ -102,7 +102,7 @@ first_sharing-pair-requires c =
     let c-placed = placed_by c.requires c.first_misplaced-misplaced.ensures c.if-misplaced-ne0.false in
     timed_by c.requires c-placed c.first_late-late.ensures c.if-late-ne0.false in
     -- after 15
-    let known : Prepared c.args.times.now c.args.arrows.now c.args.m c.args.procs.now c.args.starts.now c.latest_ends.new.1.1.1.0 =
+    let known : Prepared c.args.times.now c.args.arrows.now c.args.m c.args.procs.now c.args.starts.now c.latest_ends.new.ready =
     let c-placed = placed_by c.requires c.first_misplaced-misplaced.ensures c.if-misplaced-ne0.false in
     let c-timed = timed in
     prepared_by c.requires c-placed c-timed c.latest_ends.ensures c.first_early-early.ensures c.if-early-ne0.false in
@@ -116,7 +116,7 @@ overflow_cast-lower c =
     let c-placed = placed_by c.requires c.first_misplaced-misplaced.ensures c.if-misplaced-ne0.false in
     timed_by c.requires c-placed c.first_late-late.ensures c.if-late-ne0.false in
     -- after 15
-    let known : Prepared c.args.times.now c.args.arrows.now c.args.m c.args.procs.now c.args.starts.now c.latest_ends.new.1.1.1.0 =
+    let known : Prepared c.args.times.now c.args.arrows.now c.args.m c.args.procs.now c.args.starts.now c.latest_ends.new.ready =
     let c-placed = placed_by c.requires c.first_misplaced-misplaced.ensures c.if-misplaced-ne0.false in
     let c-timed = timed in
     prepared_by c.requires c-placed c-timed c.latest_ends.ensures c.first_early-early.ensures c.if-early-ne0.false in
@@ -134,7 +134,7 @@ overflow_cast-higher c =
     let c-placed = placed_by c.requires c.first_misplaced-misplaced.ensures c.if-misplaced-ne0.false in
     timed_by c.requires c-placed c.first_late-late.ensures c.if-late-ne0.false in
     -- after 15
-    let known : Prepared c.args.times.now c.args.arrows.now c.args.m c.args.procs.now c.args.starts.now c.latest_ends.new.1.1.1.0 =
+    let known : Prepared c.args.times.now c.args.arrows.now c.args.m c.args.procs.now c.args.starts.now c.latest_ends.new.ready =
     let c-placed = placed_by c.requires c.first_misplaced-misplaced.ensures c.if-misplaced-ne0.false in
     let c-timed = timed in
     prepared_by c.requires c-placed c-timed c.latest_ends.ensures c.first_early-early.ensures c.if-early-ne0.false in
@@ -153,7 +153,7 @@ returns-then-lower-ne0 c =
     let c-placed = placed_by c.requires c.first_misplaced-misplaced.ensures c.if-misplaced-ne0.false in
     timed_by c.requires c-placed c.first_late-late.ensures c.if-late-ne0.false in
     -- after 15
-    let known : Prepared c.args.times.now c.args.arrows.now c.args.m c.args.procs.now c.args.starts.now c.latest_ends.new.1.1.1.0 =
+    let known : Prepared c.args.times.now c.args.arrows.now c.args.m c.args.procs.now c.args.starts.now c.latest_ends.new.ready =
     let c-placed = placed_by c.requires c.first_misplaced-misplaced.ensures c.if-misplaced-ne0.false in
     let c-timed = timed in
     prepared_by c.requires c-placed c-timed c.latest_ends.ensures c.first_early-early.ensures c.if-early-ne0.false in
@@ -167,7 +167,7 @@ earliest_idle-instant-requires c =
     let c-placed = placed_by c.requires c.first_misplaced-misplaced.ensures c.if-misplaced-ne0.false in
     timed_by c.requires c-placed c.first_late-late.ensures c.if-late-ne0.false in
     -- after 15
-    let known : Prepared c.args.times.now c.args.arrows.now c.args.m c.args.procs.now c.args.starts.now c.latest_ends.new.1.1.1.0 =
+    let known : Prepared c.args.times.now c.args.arrows.now c.args.m c.args.procs.now c.args.starts.now c.latest_ends.new.ready =
     let c-placed = placed_by c.requires c.first_misplaced-misplaced.ensures c.if-misplaced-ne0.false in
     let c-timed = timed in
     prepared_by c.requires c-placed c-timed c.latest_ends.ensures c.first_early-early.ensures c.if-early-ne0.false in
@@ -182,7 +182,7 @@ returns-then-instant-lt-NEVER c =
     let c-placed = placed_by c.requires c.first_misplaced-misplaced.ensures c.if-misplaced-ne0.false in
     timed_by c.requires c-placed c.first_late-late.ensures c.if-late-ne0.false in
     -- after 15
-    let known : Prepared c.args.times.now c.args.arrows.now c.args.m c.args.procs.now c.args.starts.now c.latest_ends.new.1.1.1.0 =
+    let known : Prepared c.args.times.now c.args.arrows.now c.args.m c.args.procs.now c.args.starts.now c.latest_ends.new.ready =
     let c-placed = placed_by c.requires c.first_misplaced-misplaced.ensures c.if-misplaced-ne0.false in
     let c-timed = timed in
     prepared_by c.requires c-placed c-timed c.latest_ends.ensures c.first_early-early.ensures c.if-early-ne0.false in
@@ -202,7 +202,7 @@ returns c =
     let c-placed = placed_by c.requires c.first_misplaced-misplaced.ensures c.if-misplaced-ne0.false in
     timed_by c.requires c-placed c.first_late-late.ensures c.if-late-ne0.false in
     -- after 15
-    let known : Prepared c.args.times.now c.args.arrows.now c.args.m c.args.procs.now c.args.starts.now c.latest_ends.new.1.1.1.0 =
+    let known : Prepared c.args.times.now c.args.arrows.now c.args.m c.args.procs.now c.args.starts.now c.latest_ends.new.ready =
     let c-placed = placed_by c.requires c.first_misplaced-misplaced.ensures c.if-misplaced-ne0.false in
     let c-timed = timed in
     prepared_by c.requires c-placed c-timed c.latest_ends.ensures c.first_early-early.ensures c.if-early-ne0.false in

@@ -82,10 +82,10 @@ pub returns-then-low-x : goal.returns-then-low-x
 returns-then-low-x c =
     let to : c.to_at-j.result.0 ≡ to_of c.args.arrows.now c.args.place =
     c.to_at-j.ensures.0 in
-    counted_off to c.usize_from_u16-x.ensures.0 c.mark.ensures (λ _. omega (arith, c.if-low-x.true)) (λ n. absurd (n c.if-rest-ne0.left))
+    counted_off to c.usize_from_u16-x.ensures.0 c.mark.ensures (λ _. omega (arith, c.if-low-x.true)) (λ n. absurd (n c.if-rest-ne0.false))
 
 pub returns : goal.returns
 returns c =
     let to : c.to_at-j.result.0 ≡ to_of c.args.arrows.now c.args.place =
     c.to_at-j.ensures.0 in
-    counted_off to c.usize_from_u16-x.ensures.0 c.mark.ensures (λ _. omega (arith, c.if-low-x.false)) (λ n. absurd (n c.if-rest-ne0.left))
+    counted_off to c.usize_from_u16-x.ensures.0 c.mark.ensures (λ _. omega (arith, c.if-low-x.false)) (λ n. absurd (n c.if-rest-ne0.false))

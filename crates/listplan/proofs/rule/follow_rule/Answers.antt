@@ -140,7 +140,7 @@ first_free-free-requires c =
 
 pub next_to_go-x-requires : goal.next_to_go-x-requires
 next_to_go-x-requires c =
-    (omega (arith, c.requires.job.is_order.whole, c.requires.job.graph.count.high), c.loop-c.inv.making.marks.long, c.loop-c.inv.grouped, c.loop-c.inv.unmarked)
+    (omega (arith, c.requires.job.is_order.whole, c.requires.job.graph.count.high), c.loop-c.invariant.making.marks.long, c.loop-c.invariant.grouped, c.loop-c.invariant.unmarked)
 
 pub subtask_at-subtask-requires : goal.subtask_at-subtask-requires
 subtask_at-subtask-requires c = tt
@@ -293,7 +293,7 @@ returns-then-t c =
       first_free = c.first_free-free.ensures.1;
     } in
     let at = seeks in
-    record { list_plan = finished at c.if-x-order.left c.first_to_end-due.ensures its-end c.if-t.true; sizes = at.now.making.sizes; }
+    record { list_plan = finished at c.if-x-order.false c.first_to_end-due.ensures its-end c.if-t.true; sizes = at.now.making.sizes; }
 
 counts-off : goal.loop-c-preserved-then-c-ne0 × goal.loop-c-smaller-then-c-ne0
 counts-off = both (λ c.
@@ -338,8 +338,7 @@ starts-one = both (λ c.
       to_go = c.next_to_go-x.ensures;
       first_free = c.first_free-free.ensures.1;
     } in
-    let one = goes c.before in
-    step_started seeks one.before.if3.taken one.subtask_at_lem.ensures.0 c.unmark.ensures c.start_on.ensures)
+    step_started seeks c.if-x-order.true c.subtask_at-subtask.ensures.0 c.unmark.ensures c.start_on.ensures)
 
 pub loop-c-smaller-then-x-order : goal.loop-c-smaller-then-x-order
 loop-c-smaller-then-x-order = starts-one.1
@@ -361,7 +360,7 @@ moves = both (λ c.
       to_go = c.next_to_go-x.ensures;
       first_free = c.first_free-free.ensures.1;
     } in
-    step_moved seeks c.if-x-order.left c.first_to_end-due.ensures its-end c.if-t.false)
+    step_moved seeks c.if-x-order.false c.first_to_end-due.ensures its-end c.if-t.false)
 
 pub loop-c-smaller : goal.loop-c-smaller
 loop-c-smaller = moves.1

@@ -12,12 +12,9 @@ rank_subtasks-requires c = record { distinct = distinct c.requires.sound_graph c
 
 pub follow_rule-requires : goal.follow_rule-requires
 follow_rule-requires c =
-    let arrows = chained c.before.before.before.before.before.before.before.before.before in
-    let pre = arrows.before.requires in
-    let given = pre.1.0 in
     let job : Job _ _ _ _ _ _ _ =
-    record { graph = pre.0; within = given.0; is_order = given.1; work = given.2; chains = arrows.chain-arrows.ensures.0; ranks = c.rank_subtasks.ensures.ranks } in
-    record { job = job; making = nothing_placed job arrows.chain-arrows.ensures.1 c.rank_subtasks.ensures.sources pre.1.1.0 pre.1.1.1; grouped = c.rank_subtasks.ensures.grouped }
+    record { graph = c.requires.sound_graph; within = c.requires.among.0; is_order = c.requires.among.1; work = c.requires.among.2; chains = c.chain_arrows.ensures.chains; ranks = c.rank_subtasks.ensures.ranks } in
+    record { job = job; making = nothing_placed job c.chain_arrows.ensures.arrows_to c.rank_subtasks.ensures.sources c.requires.processors_value.0 c.requires.processors_value.1; grouped = c.rank_subtasks.ensures.grouped }
 
 pub shape_of-processors : goal.shape_of-processors
 shape_of-processors c = c.processors-1.given

@@ -42,7 +42,7 @@ bounds-ready-x c =
     omega (arith, inside)
 
 pub returns-then-ready-x-eq1 : goal.returns-then-ready-x-eq1
-returns-then-ready-x-eq1 c = marked_here c.requires.0 c.loop-x-test.taken c.loop-x.inv c.if-ready-x-eq1.true
+returns-then-ready-x-eq1 c = marked_here c.requires.0 c.loop-x-test.true c.loop-x.invariant c.if-ready-x-eq1.true
 
 pub overflow_add-x-else-ready-x-eq1 : goal.overflow_add-x-else-ready-x-eq1
 overflow_add-x-else-ready-x-eq1 c =
@@ -52,10 +52,10 @@ overflow_add-x-else-ready-x-eq1 c =
     omega (arith, inside)
 
 pub loop-x-smaller : goal.loop-x-smaller
-loop-x-smaller c = omega (arith, c.loop-x-test.taken)
+loop-x-smaller c = omega (arith, c.loop-x-test.true)
 
 pub loop-x-preserved : goal.loop-x-preserved
-loop-x-preserved c = unmarked_more c.loop-x.inv c.if-ready-x-eq1.false
+loop-x-preserved c = unmarked_more c.loop-x.invariant c.if-ready-x-eq1.false
 
 pub returns : goal.returns
 returns c = none_marked c.requires.0 c.loop-x-test.false c.loop-x.invariant

@@ -1,0 +1,14 @@
+-- `follow_rule`: each way round keeps what holds and leaves less to do; at the end the rows hold the list plan. Assumes nothing.
+-- ---- the places of the code where each way round begins, and what is known there
+-- ---- what is asked at each
+use Rattle.listplan.proofs.Following.{Following}
+use Rattle.listplan.proofs.Steps.{to_do}
+use Rattle.listplan.proofs.rule.follow_rule.Given as goal
+
+abbrev pub invariant-loop-c : goal.invariant-loop-c
+invariant-loop-c l =
+    Following l.initial.times l.initial.arrows l.initial.order l.initial.m l.t l.c l.left l.ready l.groups l.until l.who l.processors l.starts l.due.0 l.free.0 l.low
+
+abbrev pub decreases-loop-c : goal.decreases-loop-c
+decreases-loop-c l =
+    to_do l.initial.times l.t l.left l.who l.processors
