@@ -3,20 +3,11 @@ use native.Mathlib.Omega.{arith}
 use Rattle.nests.proofs.WholeNests.{row_long, row_broken, row_left, row_filled}
 use Rattle.nests.proofs.figures_of.Goals as goal
 
-pub refuse-requires : goal.refuse-requires
-refuse-requires c = tt
-
 pub returns-then-row-gt256 : goal.returns-then-row-gt256
 returns-then-row-gt256 c = row_long _ (omega (arith, c.if-row-gt256.true)) c.refuse.ensures
 
-pub refuse-requires-then-nest-eq0 : goal.refuse-requires-then-nest-eq0
-refuse-requires-then-nest-eq0 c = tt
-
 pub returns-then-nest-eq0 : goal.returns-then-nest-eq0
 returns-then-nest-eq0 c = row_broken _ c.sequence-nest.ensures c.if-nest-eq0.true c.refuse-then-nest-eq0.ensures
-
-pub refuse-requires-then-nest-row : goal.refuse-requires-then-nest-row
-refuse-requires-then-nest-row c = tt
 
 pub returns-then-nest-row : goal.returns-then-nest-row
 returns-then-nest-row c =
@@ -24,5 +15,4 @@ returns-then-nest-row c =
 
 pub returns : goal.returns
 returns c =
-    let walked = c.before.before.before.before in
-    row_filled _ walked.sequence.ensures c.if-nest-eq0.false c.if-nest-row.false walked.before.if1.false
+    row_filled _ c.sequence-nest.ensures c.if-nest-eq0.false c.if-nest-row.false c.if-row-gt256.false

@@ -3,32 +3,17 @@ use native.Mathlib.Omega.{arith}
 use Rattle.nests.proofs.Entries.{no_graph_past, no_graph_here, graph_here}
 use Rattle.nests.proofs.walk.graph_at.Goals as goal
 
-pub broken-requires : goal.broken-requires
-broken-requires c = tt
-
 pub returns-then-row-at : goal.returns-then-row-at
 returns-then-row-at c = no_graph_past _ _ c.if-row-at.true c.broken.ensures
-
-pub broken-requires-then-entry-ne0 : goal.broken-requires-then-entry-ne0
-broken-requires-then-entry-ne0 c = tt
 
 pub returns-then-entry-ne0 : goal.returns-then-entry-ne0
 returns-then-entry-ne0 c = no_graph_here _ _ (omega arith) (λ g. c.if-entry-ne0.true g.kind_is) c.broken-then-entry-ne0.ensures
 
-pub broken-requires-then-entry-eq0 : goal.broken-requires-then-entry-eq0
-broken-requires-then-entry-eq0 c = tt
-
 pub returns-then-entry-eq0 : goal.returns-then-entry-eq0
 returns-then-entry-eq0 c = no_graph_here _ _ (omega arith) (λ g. omega (arith, c.if-entry-eq0.true, g.in_range.path.low)) c.broken-then-entry-eq0.ensures
 
-pub broken-requires-then-entry : goal.broken-requires-then-entry
-broken-requires-then-entry c = tt
-
 pub returns-then-entry : goal.returns-then-entry
 returns-then-entry c = no_graph_here _ _ (omega arith) (λ g. omega (arith, c.if-entry.true, g.in_range.path.high)) c.broken-then-entry.ensures
-
-pub broken-requires-then-entry-gt16776960 : goal.broken-requires-then-entry-gt16776960
-broken-requires-then-entry-gt16776960 c = tt
 
 pub returns-then-entry-gt16776960 : goal.returns-then-entry-gt16776960
 returns-then-entry-gt16776960 c = no_graph_here _ _ (omega arith) (λ g. omega (arith, c.if-entry-gt16776960.true, g.in_range.work)) c.broken-then-entry-gt16776960.ensures
