@@ -6,7 +6,7 @@ mod puts;
 
 ghost use Rattle.std.specs.Prelude.{◌≡◌, ◌++◌, ◌+◌, ◌*◌, ◌≤◌, length};
 ghost use Rattle.std.proofs.lemmas.List.Edits.{sets};
-ghost use Rattle.terms.specs.Arrangements.{last_of};
+ghost use Rattle.terms.specs.Arrangements.{lasts_of};
 ghost use Rattle.terms.specs.Joins.{graph_of, end_to_end, side_by_side, joined_to};
 ghost use Rattle.terms.specs.Replies.{IsJoined, IsJoin, IsNestMeasure};
 ghost use Rattle.joins.specs.Tables.{Joinable};
@@ -56,7 +56,7 @@ fn join_to(
     arrows: &mut [[u16; 2]],
 ) -> Counts
     requires joinable { Joinable (graph_of first_times.now first_arrows.now) (graph_of second_times.now second_arrows.now) targets.now }
-    requires added_value { added ≡ length (last_of (length first_times.now) first_arrows.now) * length targets.now }
+    requires added_value { added ≡ length (lasts_of (length first_times.now) first_arrows.now) * length targets.now }
     ensures { let a = graph_of first_times.now first_arrows.now in
         let b = graph_of second_times.now second_arrows.now in
         IsJoined a b (joined_to targets.now a b)

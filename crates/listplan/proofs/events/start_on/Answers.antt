@@ -56,4 +56,6 @@ bounds-who-p c =
     on_in
 
 pub returns : goal.returns
-returns c = (refl, (refl, rw (c.usize_from_u8-p.ensures.0, c.time_of.ensures.is c.requires.subtask.0) (refl, refl)))
+returns c =
+    rw (c.usize_from_u8-p.ensures.0, c.time_of.ensures.is c.requires.subtask.0)
+    (record { processors_after = refl; starts_after = refl; until_after = refl; who_after = refl })

@@ -37,7 +37,7 @@ returns-then-seen-j-eq1 c =
     not_twice here c.if-seen-j-eq1.true
 
 pub bounds-seen-j-in-loop-x : goal.bounds-seen-j-in-loop-x
-bounds-seen-j-in-loop-x c = array-read-if4 c.before
+bounds-seen-j-in-loop-x c = omega (arith, c.if-times-j.false, c.requires)
 
 pub overflow_add-x : goal.overflow_add-x
 overflow_add-x c = omega arith

@@ -1,8 +1,5 @@
 -- `follow_rule`: each way round keeps what holds and leaves less to do; at the end the rows hold the list plan. Assumes nothing.
--- ---- the places of the code where each way round begins, and what is known there
--- ---- what is asked at each
 use mathlib.Core.Path.{◌≡◌, sym, ap, ◌∙◌}
-use mathlib.Core.List.{List}
 use native.Mathlib.Omega.{arith}
 use Prim.Native.Nat.{ℕ, ◌<◌}
 use lib.ListN.{get_or, length-set}
@@ -10,20 +7,9 @@ use Rattle.theory.proofs.Rounds.{both}
 use Rattle.theory.specs.First.{NoneBelow}
 use Rattle.listplan.specs.Making.{IsMarked}
 use Rattle.listplan.proofs.Beginning.{begins}
-use Rattle.listplan.proofs.Steps.{OfTurn, Counts, Ends, Seeks, arrow_fits, holder_fits, next_due, starter_fits}
+use Rattle.listplan.proofs.Steps.{Counts, Ends, Seeks, arrow_fits, holder_fits, next_due, starter_fits}
 use Rattle.listplan.proofs.Steps.{step_counted, step_ended, step_started, step_moved, finished}
 use Rattle.listplan.proofs.rule.follow_rule.Goals as goal
-
--- over the values at a turn
-abbrev At : OfTurn → tie.At-loop invariant-loop decreases-loop → Type 0
-At Known turn =
-    let args = turn.args in
-    let loop = turn.loop in
-    Known args.times.now args.arrows.now args.order.now args.m args.first.now args.next.now args.rank.now loop.t loop.c
-    loop.left loop.ready loop.groups loop.until loop.who loop.processors loop.starts loop.due.0 loop.free.0 loop.low
-
-abbrev ends_there : tie.After-usize-from-u82 invariant-loop decreases-loop → List ℕ
-ends_there c = c.before.before.before.before.loop.until
 
 pub overflow_add-due : goal.overflow_add-due
 overflow_add-due c = omega (arith, c.requires.job.within.high)
@@ -40,13 +26,13 @@ overflow_sub-c c = omega arith
 pub count_off-low-requires : goal.count_off-low-requires
 count_off-low-requires c =
     -- an arrow is to be counted off
-    let counts : At Counts c.before =
+    let counts : Counts c.args.times.now c.args.arrows.now c.args.order.now c.args.m c.args.first.now c.args.next.now c.args.rank.now c.loop-c.t c.loop-c.c c.loop-c.left c.loop-c.ready c.loop-c.groups c.loop-c.until c.loop-c.who c.loop-c.processors c.loop-c.starts c.loop-c.due.0 c.loop-c.free.0 c.loop-c.low =
       record { job = c.requires.job; now = c.loop-c.invariant; some = c.if-c-ne0.true } in
-    let seeks : At (Seeks c.next_to_go-x.result c.first_free-free.result.0) c.before.before.before =
+    let seeks : Seeks c.next_to_go-x.result c.first_free-free.result.0 c.args.times.now c.args.arrows.now c.args.order.now c.args.m c.args.first.now c.args.next.now c.args.rank.now c.loop-c.t c.loop-c.c c.loop-c.left c.loop-c.ready c.loop-c.groups c.loop-c.until c.loop-c.who c.loop-c.processors c.loop-c.starts c.loop-c.due.0 c.loop-c.free.0 c.loop-c.low =
       record {
       job = c.requires.job;
       now = c.loop-c.invariant;
-      c.before.before.before.before.before = c.if-c-ne0.false;
+      none = c.if-c-ne0.false;
       over = omega (arith, c.if-usize_from_u8-m.false, c.usize_from_u8.ensures.0);
       one = c.first_free-free.ensures.0;
       to_go = c.next_to_go-x.ensures;
@@ -65,14 +51,14 @@ overflow_sub-c-then-c-ne0 c = omega arith
 pub offset_bounds-next-c : goal.offset_bounds-next-c
 offset_bounds-next-c c =
     -- an arrow is to be counted off
-    let counts : At Counts c.before =
+    let counts : Counts c.args.times.now c.args.arrows.now c.args.order.now c.args.m c.args.first.now c.args.next.now c.args.rank.now c.loop-c.t c.loop-c.c c.loop-c.left c.loop-c.ready c.loop-c.groups c.loop-c.until c.loop-c.who c.loop-c.processors c.loop-c.starts c.loop-c.due.0 c.loop-c.free.0 c.loop-c.low =
       record { job = c.requires.job; now = c.loop-c.invariant; some = c.if-c-ne0.true } in
     omega (arith, (arrow_fits counts).0)
 
 pub bounds-next-c : goal.bounds-next-c
 bounds-next-c c =
     -- an arrow is to be counted off
-    let counts : At Counts c.before =
+    let counts : Counts c.args.times.now c.args.arrows.now c.args.order.now c.args.m c.args.first.now c.args.next.now c.args.rank.now c.loop-c.t c.loop-c.c c.loop-c.left c.loop-c.ready c.loop-c.groups c.loop-c.until c.loop-c.who c.loop-c.processors c.loop-c.starts c.loop-c.due.0 c.loop-c.free.0 c.loop-c.low =
       record { job = c.requires.job; now = c.loop-c.invariant; some = c.if-c-ne0.true } in
     omega (arith, (arrow_fits counts).0)
 
@@ -85,18 +71,18 @@ usize_from_u8-requires c = tt
 pub end_on-c-requires : goal.end_on-c-requires
 end_on-c-requires c =
     -- a subtask ends
-    let ends : At Ends c.before.before.before =
+    let ends : Ends c.args.times.now c.args.arrows.now c.args.order.now c.args.m c.args.first.now c.args.next.now c.args.rank.now c.loop-c.t c.loop-c.c c.loop-c.left c.loop-c.ready c.loop-c.groups c.loop-c.until c.loop-c.who c.loop-c.processors c.loop-c.starts c.loop-c.due.0 c.loop-c.free.0 c.loop-c.low =
       record {
       job = c.requires.job;
       now = c.loop-c.invariant;
       none = c.if-c-ne0.false;
       within = omega (arith, c.if-usize_from_u8-m.true, c.usize_from_u8.ensures.0);
     } in
-    let seeks : At (Seeks c.next_to_go-x.result c.first_free-free.result.0) c.before.before.before =
+    let seeks : Seeks c.next_to_go-x.result c.first_free-free.result.0 c.args.times.now c.args.arrows.now c.args.order.now c.args.m c.args.first.now c.args.next.now c.args.rank.now c.loop-c.t c.loop-c.c c.loop-c.left c.loop-c.ready c.loop-c.groups c.loop-c.until c.loop-c.who c.loop-c.processors c.loop-c.starts c.loop-c.due.0 c.loop-c.free.0 c.loop-c.low =
       record {
       job = c.requires.job;
       now = c.loop-c.invariant;
-      c.before.before.before.before.before = c.if-c-ne0.false;
+      none = c.if-c-ne0.false;
       over = omega (arith, c.if-usize_from_u8-m.false, c.usize_from_u8.ensures.0);
       one = c.first_free-free.ensures.0;
       to_go = c.next_to_go-x.ensures;
@@ -112,7 +98,7 @@ end_on-c-requires c =
 pub overflow_add-due-then-usize_from_u8-m : goal.overflow_add-due-then-usize_from_u8-m
 overflow_add-due-then-usize_from_u8-m c =
     -- a subtask ends
-    let ends : At Ends c.before.before.before =
+    let ends : Ends c.args.times.now c.args.arrows.now c.args.order.now c.args.m c.args.first.now c.args.next.now c.args.rank.now c.loop-c.t c.loop-c.c c.loop-c.left c.loop-c.ready c.loop-c.groups c.loop-c.until c.loop-c.who c.loop-c.processors c.loop-c.starts c.loop-c.due.0 c.loop-c.free.0 c.loop-c.low =
       record {
       job = c.requires.job;
       now = c.loop-c.invariant;
@@ -124,7 +110,7 @@ overflow_add-due-then-usize_from_u8-m c =
 pub first_due-due-requires : goal.first_due-due-requires
 first_due-due-requires c =
     -- a subtask ends
-    let ends : At Ends c.before.before.before =
+    let ends : Ends c.args.times.now c.args.arrows.now c.args.order.now c.args.m c.args.first.now c.args.next.now c.args.rank.now c.loop-c.t c.loop-c.c c.loop-c.left c.loop-c.ready c.loop-c.groups c.loop-c.until c.loop-c.who c.loop-c.processors c.loop-c.starts c.loop-c.due.0 c.loop-c.free.0 c.loop-c.low =
       record {
       job = c.requires.job;
       now = c.loop-c.invariant;
@@ -147,11 +133,11 @@ subtask_at-subtask-requires c = tt
 
 pub start_on-requires : goal.start_on-requires
 start_on-requires c =
-    let seeks : At (Seeks c.next_to_go-x.result c.first_free-free.result.0) c.before.before.before =
+    let seeks : Seeks c.next_to_go-x.result c.first_free-free.result.0 c.args.times.now c.args.arrows.now c.args.order.now c.args.m c.args.first.now c.args.next.now c.args.rank.now c.loop-c.t c.loop-c.c c.loop-c.left c.loop-c.ready c.loop-c.groups c.loop-c.until c.loop-c.who c.loop-c.processors c.loop-c.starts c.loop-c.due.0 c.loop-c.free.0 c.loop-c.low =
       record {
       job = c.requires.job;
       now = c.loop-c.invariant;
-      c.before.before.before.before.before = c.if-c-ne0.false;
+      none = c.if-c-ne0.false;
       over = omega (arith, c.if-usize_from_u8-m.false, c.usize_from_u8.ensures.0);
       one = c.first_free-free.ensures.0;
       to_go = c.next_to_go-x.ensures;
@@ -170,11 +156,11 @@ start_on-requires c =
 
 pub unmark-requires : goal.unmark-requires
 unmark-requires c =
-    let seeks : At (Seeks c.next_to_go-x.result c.first_free-free.result.0) c.before.before.before =
+    let seeks : Seeks c.next_to_go-x.result c.first_free-free.result.0 c.args.times.now c.args.arrows.now c.args.order.now c.args.m c.args.first.now c.args.next.now c.args.rank.now c.loop-c.t c.loop-c.c c.loop-c.left c.loop-c.ready c.loop-c.groups c.loop-c.until c.loop-c.who c.loop-c.processors c.loop-c.starts c.loop-c.due.0 c.loop-c.free.0 c.loop-c.low =
       record {
       job = c.requires.job;
       now = c.loop-c.invariant;
-      c.before.before.before.before.before = c.if-c-ne0.false;
+      none = c.if-c-ne0.false;
       over = omega (arith, c.if-usize_from_u8-m.false, c.usize_from_u8.ensures.0);
       one = c.first_free-free.ensures.0;
       to_go = c.next_to_go-x.ensures;
@@ -187,11 +173,11 @@ unmark-requires c =
 
 pub overflow_add-low : goal.overflow_add-low
 overflow_add-low c =
-    let seeks : At (Seeks c.next_to_go-x.result c.first_free-free.result.0) c.before.before.before =
+    let seeks : Seeks c.next_to_go-x.result c.first_free-free.result.0 c.args.times.now c.args.arrows.now c.args.order.now c.args.m c.args.first.now c.args.next.now c.args.rank.now c.loop-c.t c.loop-c.c c.loop-c.left c.loop-c.ready c.loop-c.groups c.loop-c.until c.loop-c.who c.loop-c.processors c.loop-c.starts c.loop-c.due.0 c.loop-c.free.0 c.loop-c.low =
       record {
       job = c.requires.job;
       now = c.loop-c.invariant;
-      c.before.before.before.before.before = c.if-c-ne0.false;
+      none = c.if-c-ne0.false;
       over = omega (arith, c.if-usize_from_u8-m.false, c.usize_from_u8.ensures.0);
       one = c.first_free-free.ensures.0;
       to_go = c.next_to_go-x.ensures;
@@ -203,11 +189,11 @@ overflow_add-low c =
 
 pub first_to_end-due-requires : goal.first_to_end-due-requires
 first_to_end-due-requires c =
-    let seeks : At (Seeks c.next_to_go-x.result c.first_free-free.result.0) c.before.before.before =
+    let seeks : Seeks c.next_to_go-x.result c.first_free-free.result.0 c.args.times.now c.args.arrows.now c.args.order.now c.args.m c.args.first.now c.args.next.now c.args.rank.now c.loop-c.t c.loop-c.c c.loop-c.left c.loop-c.ready c.loop-c.groups c.loop-c.until c.loop-c.who c.loop-c.processors c.loop-c.starts c.loop-c.due.0 c.loop-c.free.0 c.loop-c.low =
       record {
       job = c.requires.job;
       now = c.loop-c.invariant;
-      c.before.before.before.before.before = c.if-c-ne0.false;
+      none = c.if-c-ne0.false;
       over = omega (arith, c.if-usize_from_u8-m.false, c.usize_from_u8.ensures.0);
       one = c.first_free-free.ensures.0;
       to_go = c.next_to_go-x.ensures;
@@ -220,11 +206,11 @@ usize_from_u8-requires-in-loop-c c = tt
 
 pub offset_bounds-until-usize_from_u8 : goal.offset_bounds-until-usize_from_u8
 offset_bounds-until-usize_from_u8 c =
-    let seeks : At (Seeks c.next_to_go-x.result c.first_free-free.result.0) c.before.before.before =
+    let seeks : Seeks c.next_to_go-x.result c.first_free-free.result.0 c.args.times.now c.args.arrows.now c.args.order.now c.args.m c.args.first.now c.args.next.now c.args.rank.now c.loop-c.t c.loop-c.c c.loop-c.left c.loop-c.ready c.loop-c.groups c.loop-c.until c.loop-c.who c.loop-c.processors c.loop-c.starts c.loop-c.due.0 c.loop-c.free.0 c.loop-c.low =
       record {
       job = c.requires.job;
       now = c.loop-c.invariant;
-      c.before.before.before.before.before = c.if-c-ne0.false;
+      none = c.if-c-ne0.false;
       over = omega (arith, c.if-usize_from_u8-m.false, c.usize_from_u8.ensures.0);
       one = c.first_free-free.ensures.0;
       to_go = c.next_to_go-x.ensures;
@@ -236,11 +222,11 @@ offset_bounds-until-usize_from_u8 c =
 
 pub bounds-until-usize_from_u8 : goal.bounds-until-usize_from_u8
 bounds-until-usize_from_u8 c =
-    let seeks : At (Seeks c.next_to_go-x.result c.first_free-free.result.0) c.before.before.before =
+    let seeks : Seeks c.next_to_go-x.result c.first_free-free.result.0 c.args.times.now c.args.arrows.now c.args.order.now c.args.m c.args.first.now c.args.next.now c.args.rank.now c.loop-c.t c.loop-c.c c.loop-c.left c.loop-c.ready c.loop-c.groups c.loop-c.until c.loop-c.who c.loop-c.processors c.loop-c.starts c.loop-c.due.0 c.loop-c.free.0 c.loop-c.low =
       record {
       job = c.requires.job;
       now = c.loop-c.invariant;
-      c.before.before.before.before.before = c.if-c-ne0.false;
+      none = c.if-c-ne0.false;
       over = omega (arith, c.if-usize_from_u8-m.false, c.usize_from_u8.ensures.0);
       one = c.first_free-free.ensures.0;
       to_go = c.next_to_go-x.ensures;
@@ -252,11 +238,11 @@ bounds-until-usize_from_u8 c =
 
 pub shape_of-processors-then-t : goal.shape_of-processors-then-t
 shape_of-processors-then-t c =
-    let seeks : At (Seeks c.next_to_go-x.result c.first_free-free.result.0) c.before.before.before =
+    let seeks : Seeks c.next_to_go-x.result c.first_free-free.result.0 c.args.times.now c.args.arrows.now c.args.order.now c.args.m c.args.first.now c.args.next.now c.args.rank.now c.loop-c.t c.loop-c.c c.loop-c.left c.loop-c.ready c.loop-c.groups c.loop-c.until c.loop-c.who c.loop-c.processors c.loop-c.starts c.loop-c.due.0 c.loop-c.free.0 c.loop-c.low =
       record {
       job = c.requires.job;
       now = c.loop-c.invariant;
-      c.before.before.before.before.before = c.if-c-ne0.false;
+      none = c.if-c-ne0.false;
       over = omega (arith, c.if-usize_from_u8-m.false, c.usize_from_u8.ensures.0);
       one = c.first_free-free.ensures.0;
       to_go = c.next_to_go-x.ensures;
@@ -266,11 +252,11 @@ shape_of-processors-then-t c =
 
 pub shape_of-starts-then-t : goal.shape_of-starts-then-t
 shape_of-starts-then-t c =
-    let seeks : At (Seeks c.next_to_go-x.result c.first_free-free.result.0) c.before.before.before =
+    let seeks : Seeks c.next_to_go-x.result c.first_free-free.result.0 c.args.times.now c.args.arrows.now c.args.order.now c.args.m c.args.first.now c.args.next.now c.args.rank.now c.loop-c.t c.loop-c.c c.loop-c.left c.loop-c.ready c.loop-c.groups c.loop-c.until c.loop-c.who c.loop-c.processors c.loop-c.starts c.loop-c.due.0 c.loop-c.free.0 c.loop-c.low =
       record {
       job = c.requires.job;
       now = c.loop-c.invariant;
-      c.before.before.before.before.before = c.if-c-ne0.false;
+      none = c.if-c-ne0.false;
       over = omega (arith, c.if-usize_from_u8-m.false, c.usize_from_u8.ensures.0);
       one = c.first_free-free.ensures.0;
       to_go = c.next_to_go-x.ensures;
@@ -280,13 +266,13 @@ shape_of-starts-then-t c =
 
 pub returns-then-t : goal.returns-then-t
 returns-then-t c =
-    let its-end : get_or (ends_there c) c.usize_from_u8-in-loop-c.result 0 ≡ get_or (ends_there c) c.first_to_end-due.result.0 0 =
-      ap (λ (p : ℕ). get_or (ends_there c) p 0) c.usize_from_u8-in-loop-c.ensures.0 in
-    let seeks : At (Seeks c.next_to_go-x.result c.first_free-free.result.0) c.before.before.before =
+    let its-end : get_or c.loop-c.until c.usize_from_u8-in-loop-c.result 0 ≡ get_or c.loop-c.until c.first_to_end-due.result.0 0 =
+      ap (λ (p : ℕ). get_or c.loop-c.until p 0) c.usize_from_u8-in-loop-c.ensures.0 in
+    let seeks : Seeks c.next_to_go-x.result c.first_free-free.result.0 c.args.times.now c.args.arrows.now c.args.order.now c.args.m c.args.first.now c.args.next.now c.args.rank.now c.loop-c.t c.loop-c.c c.loop-c.left c.loop-c.ready c.loop-c.groups c.loop-c.until c.loop-c.who c.loop-c.processors c.loop-c.starts c.loop-c.due.0 c.loop-c.free.0 c.loop-c.low =
       record {
       job = c.requires.job;
       now = c.loop-c.invariant;
-      c.before.before.before.before.before = c.if-c-ne0.false;
+      none = c.if-c-ne0.false;
       over = omega (arith, c.if-usize_from_u8-m.false, c.usize_from_u8.ensures.0);
       one = c.first_free-free.ensures.0;
       to_go = c.next_to_go-x.ensures;
@@ -298,7 +284,7 @@ returns-then-t c =
 counts-off : goal.loop-c-preserved-then-c-ne0 × goal.loop-c-smaller-then-c-ne0
 counts-off = both (λ c.
     -- an arrow is to be counted off
-    let counts : At Counts c.before =
+    let counts : Counts c.args.times.now c.args.arrows.now c.args.order.now c.args.m c.args.first.now c.args.next.now c.args.rank.now c.loop-c.t c.loop-c.c c.loop-c.left c.loop-c.ready c.loop-c.groups c.loop-c.until c.loop-c.who c.loop-c.processors c.loop-c.starts c.loop-c.due.0 c.loop-c.free.0 c.loop-c.low =
       record { job = c.requires.job; now = c.loop-c.invariant; some = c.if-c-ne0.true } in
     step_counted counts c.usize_from_u16-c.ensures.0 c.count_off-low.ensures)
 
@@ -311,7 +297,7 @@ loop-c-preserved-then-c-ne0 = counts-off.0
 ends-one : goal.loop-c-preserved-then-usize_from_u8-m × goal.loop-c-smaller-then-usize_from_u8-m
 ends-one = both (λ c.
     -- a subtask ends
-    let ends : At Ends c.before.before.before =
+    let ends : Ends c.args.times.now c.args.arrows.now c.args.order.now c.args.m c.args.first.now c.args.next.now c.args.rank.now c.loop-c.t c.loop-c.c c.loop-c.left c.loop-c.ready c.loop-c.groups c.loop-c.until c.loop-c.who c.loop-c.processors c.loop-c.starts c.loop-c.due.0 c.loop-c.free.0 c.loop-c.low =
       record {
       job = c.requires.job;
       now = c.loop-c.invariant;
@@ -328,11 +314,11 @@ loop-c-preserved-then-usize_from_u8-m = ends-one.0
 
 starts-one : goal.loop-c-preserved-then-x-order × goal.loop-c-smaller-then-x-order
 starts-one = both (λ c.
-    let seeks : At (Seeks c.next_to_go-x.result c.first_free-free.result.0) c.before.before.before =
+    let seeks : Seeks c.next_to_go-x.result c.first_free-free.result.0 c.args.times.now c.args.arrows.now c.args.order.now c.args.m c.args.first.now c.args.next.now c.args.rank.now c.loop-c.t c.loop-c.c c.loop-c.left c.loop-c.ready c.loop-c.groups c.loop-c.until c.loop-c.who c.loop-c.processors c.loop-c.starts c.loop-c.due.0 c.loop-c.free.0 c.loop-c.low =
       record {
       job = c.requires.job;
       now = c.loop-c.invariant;
-      c.before.before.before.before.before = c.if-c-ne0.false;
+      none = c.if-c-ne0.false;
       over = omega (arith, c.if-usize_from_u8-m.false, c.usize_from_u8.ensures.0);
       one = c.first_free-free.ensures.0;
       to_go = c.next_to_go-x.ensures;
@@ -348,13 +334,13 @@ loop-c-preserved-then-x-order = starts-one.0
 
 moves : goal.loop-c-preserved × goal.loop-c-smaller
 moves = both (λ c.
-    let its-end : get_or (ends_there c) c.usize_from_u8-in-loop-c.result 0 ≡ get_or (ends_there c) c.first_to_end-due.result.0 0 =
-      ap (λ (p : ℕ). get_or (ends_there c) p 0) c.usize_from_u8-in-loop-c.ensures.0 in
-    let seeks : At (Seeks c.next_to_go-x.result c.first_free-free.result.0) c.before.before.before =
+    let its-end : get_or c.loop-c.until c.usize_from_u8-in-loop-c.result 0 ≡ get_or c.loop-c.until c.first_to_end-due.result.0 0 =
+      ap (λ (p : ℕ). get_or c.loop-c.until p 0) c.usize_from_u8-in-loop-c.ensures.0 in
+    let seeks : Seeks c.next_to_go-x.result c.first_free-free.result.0 c.args.times.now c.args.arrows.now c.args.order.now c.args.m c.args.first.now c.args.next.now c.args.rank.now c.loop-c.t c.loop-c.c c.loop-c.left c.loop-c.ready c.loop-c.groups c.loop-c.until c.loop-c.who c.loop-c.processors c.loop-c.starts c.loop-c.due.0 c.loop-c.free.0 c.loop-c.low =
       record {
       job = c.requires.job;
       now = c.loop-c.invariant;
-      c.before.before.before.before.before = c.if-c-ne0.false;
+      none = c.if-c-ne0.false;
       over = omega (arith, c.if-usize_from_u8-m.false, c.usize_from_u8.ensures.0);
       one = c.first_free-free.ensures.0;
       to_go = c.next_to_go-x.ensures;

@@ -1,6 +1,4 @@
 -- `follow_rule`: each way round keeps what holds and leaves less to do; at the end the rows hold the list plan. Assumes nothing.
--- ---- the places of the code where each way round begins, and what is known there
--- ---- what is asked at each
 use Rattle.listplan.proofs.Following.{Following}
 use Rattle.listplan.proofs.Steps.{to_do}
 use Rattle.listplan.proofs.rule.follow_rule.Given as goal

@@ -175,4 +175,6 @@ loop-i-preserved c =
     chained_more arrow
 
 pub returns : goal.returns
-returns c = chained_all c.loop-i.invariant c.loop-i-test.false
+returns c =
+    let all = chained_all c.loop-i.invariant c.loop-i-test.false in
+    record { chains = all.0; arrows_to = all.1 }

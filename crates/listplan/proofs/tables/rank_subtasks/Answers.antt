@@ -64,4 +64,6 @@ loop-x-preserved c =
     ranked_more here c.mark.ensures
 
 pub returns : goal.returns
-returns c = ranked_all c.loop-x.invariant c.loop-x-test.false
+returns c =
+    let all = ranked_all c.loop-x.invariant c.loop-x-test.false in
+    record { ranks = all.0; sources = all.1.0; grouped = all.1.1 }

@@ -1,0 +1,17 @@
+-- `text_size`: the lengths of the parts, together. Assumes nothing.
+use native.Mathlib.Omega.{arith}
+use Rattle.writer.proofs.WholeTexts.{text_counted}
+use Rattle.writer.proofs.sizes.text_size.Goals as goal
+
+pub overflow_cast-n : goal.overflow_cast-n
+overflow_cast-n c =
+    omega (arith, c.requires.0.count)
+
+pub overflow_add-exit : goal.overflow_add-exit
+overflow_add-exit c =
+    omega (arith, c.requires.0.count)
+
+pub returns : goal.returns
+returns c =
+    text_counted _ _ _ _ _ _ _ _ c.number_size.ensures.0 c.line_size.ensures.0
+    c.subtasks_size.ensures.0 c.line_size-2.ensures.0
