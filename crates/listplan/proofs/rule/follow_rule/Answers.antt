@@ -42,7 +42,7 @@ count_off-low-requires c =
       starter_fits seeks c.if-x-order.true in
     let at = counts in
     let making = at.now.making in
-    let fits arrow_fits at in
+    let fits = arrow_fits at in
     record { place_bound = fits.1; rank_len = (at.job.ranks.long, making.lefts.long, making.marks.long, at.now.grouped.long); bound = (fits.2, fits.3); }
 
 pub overflow_sub-c-then-c-ne0 : goal.overflow_sub-c-then-c-ne0
@@ -92,7 +92,7 @@ end_on-c-requires c =
       starter_fits seeks c.if-x-order.true in
     let at = ends in
     let holders = at.now.making.holders in
-    let fits holder_fits at in
+    let fits = holder_fits at in
     record { processor_bound = (fits.0, holders.long_until, holders.long_who); processor_bound_2 = (fits.1, at.job.chains.long_first); }
 
 pub overflow_add-due-then-usize_from_u8-m : goal.overflow_add-due-then-usize_from_u8-m
