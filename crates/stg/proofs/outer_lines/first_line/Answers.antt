@@ -1,4 +1,5 @@
 -- `first_line`: one number, of 1..256. Assumes nothing.
+use borrow.Enum.Refused.{opened}
 use native.Mathlib.Omega.{arith}
 use Rattle.text.proofs.Standing.{Passed, Ended}
 use Rattle.stg.proofs.NextNumbers.{seen, no_field, no_line_end}
@@ -7,7 +8,7 @@ use Rattle.stg.proofs.outer_lines.first_line.Goals as goal
 
 pub returns-in_default : goal.returns-in_default
 returns-in_default c =
-    made (first_none c.args.text.now (no_field c.args.text.now 0 _ (omega arith) c.next_number.ensures c.in_default.keys2))
+    made (first_none c.args.text.now (no_field c.args.text.now 0 _ (omega arith) c.next_number.ensures (opened c.in_default.in_default-own.keys2)))
     c.refuse.ensures
 
 pub returns-in_default-next_number : goal.returns-in_default-next_number
@@ -15,7 +16,7 @@ returns-in_default-next_number c =
     let number : Passed c.args.text.now 0 c.in-Field.n c.in-Field.past_n =
     seen c.args.text.now 0 _ _ c.in-Field.is (omega arith) c.next_number.ensures in
     let c-number = number in
-    made (first_more c-number (no_line_end c.args.text.now _ _ c-number.inside c.next_number-2.ensures c.in_default-next_number.keys2))
+    made (first_more c-number (no_line_end c.args.text.now _ _ c-number.inside c.next_number-2.ensures (opened c.in_default-next_number.in_default-next_number-own.keys2)))
     c.refuse-in_default-next_number.ensures
 
 pub returns-then-n-lt1 : goal.returns-then-n-lt1

@@ -1,4 +1,5 @@
 -- `task_line`: a line has the shape of a task's, or has not. Assumes nothing.
+use borrow.Enum.Refused.{opened}
 use native.Mathlib.Omega.{arith}
 use Rattle.text.proofs.Standing.{Passed}
 use Rattle.stg.proofs.NextNumbers.{seen, no_field}
@@ -7,7 +8,7 @@ use Rattle.stg.proofs.tasks.task_line.Goals as goal
 
 pub returns-in_default : goal.returns-in_default
 returns-in_default c =
-    task_none c.args.text.now c.args.at _ (no_field c.args.text.now c.args.at _ c.requires.0 c.next_number.ensures c.in_default.keys2)
+    task_none c.args.text.now c.args.at _ (no_field c.args.text.now c.args.at _ c.requires.0 c.next_number.ensures (opened c.in_default.in_default-own.keys2))
 
 pub returns-then-index-i : goal.returns-then-index-i
 returns-then-index-i c =
@@ -24,7 +25,7 @@ returns-in_default-next_number c =
     seen c.args.text.now c.args.at _ _ c.in-Field.is c.requires.0 c.next_number.ensures in
     let c-first = first in
     task_one c.args.text.now c.args.at _ c-first
-    (no_field c.args.text.now _ _ c-first.inside c.next_number-2.ensures c.in_default-next_number.keys2)
+    (no_field c.args.text.now _ _ c-first.inside c.next_number-2.ensures (opened c.in_default-next_number.in_default-next_number-own.keys2))
 
 pub returns-in_default-next_number-2 : goal.returns-in_default-next_number-2
 returns-in_default-next_number-2 c =
@@ -37,7 +38,7 @@ returns-in_default-next_number-2 c =
     let c-first = first in
     let c-second = second in
     task_two c.args.text.now c.args.at _ c-first c-second
-    (no_field c.args.text.now _ _ c-second.inside c.next_number-3.ensures c.in_default-next_number-2.keys2)
+    (no_field c.args.text.now _ _ c-second.inside c.next_number-3.ensures (opened c.in_default-next_number-2.in_default-next_number-2-own.keys2))
 
 pub take_predecessors-requires : goal.take_predecessors-requires
 take_predecessors-requires c =
@@ -68,7 +69,7 @@ returns-in_default-take_predecessors c =
     (seen c.args.text.now _ _ _
     c.in-Field-next_number-2.is q.inside c.next_number-3.ensures) in
     let c-third = third in
-    task_bad c.args.text.now c.args.at _ c-third (preceded _ _ _ _ _ _ _ _ c.in_default-take_predecessors.is c.take_predecessors.ensures)
+    task_bad c.args.text.now c.args.at _ c-third c.in_default-take_predecessors.ensures
 
 pub returns-then-count-rest : goal.returns-then-count-rest
 returns-then-count-rest c =
@@ -84,7 +85,7 @@ returns-then-count-rest c =
     (seen c.args.text.now _ _ _
     c.in-Field-next_number-2.is q.inside c.next_number-3.ensures) in
     let c-third = third in
-    task_miss c.args.text.now c.args.at _ c-third (preceded _ _ _ _ _ _ _ _ c.in-Are.is c.take_predecessors.ensures) c.if-count-rest.true
+    task_miss c.args.text.now c.args.at _ c-third c.in-Are.ensures c.if-count-rest.true
 
 pub returns : goal.returns
 returns c =
@@ -100,5 +101,5 @@ returns c =
     (seen c.args.text.now _ _ _
     c.in-Field-next_number-2.is q.inside c.next_number-3.ensures) in
     let c-third = third in
-    task_is c.args.text.now c.args.at _ c-third (preceded _ _ _ _ _ _ _ _ c.in-Are.is c.take_predecessors.ensures) c.if-index-i.false
+    task_is c.args.text.now c.args.at _ c-third c.in-Are.ensures c.if-index-i.false
     c.if-count-rest.false
