@@ -1,5 +1,5 @@
 -- `draft_plan`: the draft is the list plan, or the refusal of the table. Assumes nothing.
-use mathlib.Core.Path.{◌≡◌, sym, ap, ◌∙◌}
+use mathlib.Core.Path.{sym}
 use Prim.Native.Nat.{ℕ, ◌≤◌}
 use lib.ListN.{length, replicate}
 use lib.Seq.{length-take-le}

@@ -1,12 +1,12 @@
 -- `check_placing`: the first row of 13 to 17 that holds of a plan in two rows. Assumes nothing.
 use mathlib.Core.Path.{refl}
-use Prim.Native.Nat.{ℕ, ◌-◌, ◌≤◌}
+use Prim.Native.Nat.{◌-◌, ◌≤◌}
 use native.Mathlib.Omega.{arith}
-use Rattle.terms.specs.Graphs.{Among, IsSubtask, time_of}
+use Rattle.terms.specs.Graphs.{time_of}
 use Rattle.terms.specs.Replies.{IsCheck}
 use Rattle.theory.proofs.Firsts.{shown}
 use Rattle.theory.proofs.SoundPlans.{SoundPlan}
-use Rattle.forms.specs.Forms.{entries, item_of}
+use Rattle.forms.specs.Forms.{entries}
 use Rattle.plancheck.specs.Known.{Timed}
 use Rattle.plancheck.specs.Sweeps.{ApartAndBusy}
 use Rattle.plancheck.proofs.SubtaskTests.{Prepared, answer_13, placed_by, answer_14, timed_by, answer_15, prepared_by}

@@ -1,5 +1,5 @@
 -- `copy_in`: the entries copied so far stand first, and then the table's. Assumes nothing.
-use Rattle.std.proofs.Common.{◌≡◌, ◌≤◌, ◌-◌, length}
+use Rattle.std.proofs.Common.{◌≡◌, ◌≤◌, ◌-◌}
 use Rattle.plans.specs.Copies.{over}
 use Rattle.plans.proofs.copy_in.Given as goal
 

@@ -1,5 +1,5 @@
 -- `copy_out`: the entries written so far stand first, and then the row's old ones. Assumes nothing.
-use Rattle.std.proofs.Common.{◌≡◌, ◌≤◌, ◌-◌, length}
+use Rattle.std.proofs.Common.{◌≡◌, ◌≤◌, ◌-◌}
 use Rattle.plans.specs.Copies.{over}
 use Rattle.plans.proofs.copy_out.Given as goal
 

@@ -1,6 +1,6 @@
 -- `dummy_line`: a dummy has time 0 and predecessors below its index. Assumes nothing.
 use Rattle.std.proofs.lemmas.Bool.{not-true, not-false}
-use Rattle.stg.proofs.OneLine.{made, tasked, dummy_bad, dummy_time, dummy_far, dummy_is}
+use Rattle.stg.proofs.OneLine.{made, dummy_bad, dummy_time, dummy_far, dummy_is}
 use Rattle.stg.proofs.outer_lines.dummy_line.Goals as goal
 
 pub returns-in_default : goal.returns-in_default

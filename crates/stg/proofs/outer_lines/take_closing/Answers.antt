@@ -4,7 +4,7 @@ use mathlib.Core.Bool.{Bool, cond}
 use mathlib.Core.List.{[]}
 use Rattle.terms.specs.Rows.{refusal_of}
 use Rattle.terms.specs.Readings.{Reading, graph, refuse}
-use Rattle.stg.proofs.OneLine.{made, dummied}
+use Rattle.stg.proofs.OneLine.{made}
 use Rattle.stg.proofs.AllLines.{exit_refused, exit_passed}
 use Rattle.stg.proofs.outer_lines.take_closing.Goals as goal
 

@@ -5,7 +5,6 @@ use Prim.Native.Nat.{ℕ}
 use native.Mathlib.Omega.{arith}
 use Rattle.stg.specs.LinesRead.{FirstOf}
 use Rattle.stg.specs.declared.tasks.Step.{Step}
-use Rattle.stg.proofs.OneLine.{dummied}
 use Rattle.stg.proofs.AllLines.{entry_refused, opened}
 use Rattle.stg.proofs.outer_lines.take_opening.Goals as goal
 

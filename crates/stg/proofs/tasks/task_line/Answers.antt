@@ -3,7 +3,7 @@ use borrow.Enum.Refused.{opened}
 use native.Mathlib.Omega.{arith}
 use Rattle.text.proofs.Standing.{Passed}
 use Rattle.stg.proofs.NextNumbers.{seen, no_field}
-use Rattle.stg.proofs.OneLine.{Headed, headed, preceded, task_none, task_one, task_two, task_bad, task_other, task_miss, task_is}
+use Rattle.stg.proofs.OneLine.{Headed, headed, task_none, task_one, task_two, task_bad, task_other, task_miss, task_is}
 use Rattle.stg.proofs.tasks.task_line.Goals as goal
 
 pub returns-in_default : goal.returns-in_default
