@@ -195,9 +195,9 @@ offset_bounds-until-usize_from_u8 c =
       to_go = c.next_to_go-x.ensures;
       first_free = c.first_free-free.ensures.1;
     } in
-    let first-in : c.usize_from_u8-in-loop-c.result < 17 =
+    let first_in : c.usize_from_u8-in-loop-c.result < 17 =
     omega (arith, c.usize_from_u8-in-loop-c.ensures.0, c.first_to_end-due.ensures.within.high, seeks.job.within.high) in
-    omega (arith, first-in)
+    omega (arith, first_in)
 
 pub bounds-until-usize_from_u8 : goal.bounds-until-usize_from_u8
 bounds-until-usize_from_u8 c =
@@ -211,9 +211,9 @@ bounds-until-usize_from_u8 c =
       to_go = c.next_to_go-x.ensures;
       first_free = c.first_free-free.ensures.1;
     } in
-    let first-in : c.usize_from_u8-in-loop-c.result < 17 =
+    let first_in : c.usize_from_u8-in-loop-c.result < 17 =
     omega (arith, c.usize_from_u8-in-loop-c.ensures.0, c.first_to_end-due.ensures.within.high, seeks.job.within.high) in
-    first-in
+    first_in
 
 pub shape_of-processors-then-t : goal.shape_of-processors-then-t
 shape_of-processors-then-t c =
@@ -245,7 +245,7 @@ shape_of-starts-then-t c =
 
 pub returns-then-t : goal.returns-then-t
 returns-then-t c =
-    let its-end : get_or c.loop-c.until c.usize_from_u8-in-loop-c.result 0 ≡ get_or c.loop-c.until c.first_to_end-due.result.0 0 =
+    let its_end : get_or c.loop-c.until c.usize_from_u8-in-loop-c.result 0 ≡ get_or c.loop-c.until c.first_to_end-due.result.0 0 =
     ap (λ (p : ℕ). get_or c.loop-c.until p 0) c.usize_from_u8-in-loop-c.ensures.0 in
     let seeks : Seeks c.next_to_go-x.result c.first_free-free.result.0 c.args.times.now c.args.arrows.now c.args.order.now c.args.m c.args.first.now c.args.next.now c.args.rank.now c.loop-c.t c.loop-c.c c.loop-c.left c.loop-c.ready c.loop-c.groups c.loop-c.until c.loop-c.who c.loop-c.processors c.loop-c.starts c.loop-c.due.0 c.loop-c.free.0 c.loop-c.low =
     record {
@@ -258,23 +258,23 @@ returns-then-t c =
       first_free = c.first_free-free.ensures.1;
     } in
     let at = seeks in
-    record { list_plan = finished at c.if-x-order.false c.first_to_end-due.ensures its-end c.if-t.true; sizes = at.now.making.sizes }
+    record { list_plan = finished at c.if-x-order.false c.first_to_end-due.ensures its_end c.if-t.true; sizes = at.now.making.sizes }
 
-counts-off : goal.loop-c-preserved-then-c-ne0 × goal.loop-c-smaller-then-c-ne0
-counts-off = both (λ c.
+counts_off : goal.loop-c-preserved-then-c-ne0 × goal.loop-c-smaller-then-c-ne0
+counts_off = both (λ c.
     -- an arrow is to be counted off
     let counts : Counts c.args.times.now c.args.arrows.now c.args.order.now c.args.m c.args.first.now c.args.next.now c.args.rank.now c.loop-c.t c.loop-c.c c.loop-c.left c.loop-c.ready c.loop-c.groups c.loop-c.until c.loop-c.who c.loop-c.processors c.loop-c.starts c.loop-c.due.0 c.loop-c.free.0 c.loop-c.low =
     record { job = c.requires.job; now = c.loop-c.invariant; some = c.if-c-ne0.true } in
     step_counted counts c.usize_from_u16-c.ensures.0 c.count_off-low.ensures)
 
 pub loop-c-smaller-then-c-ne0 : goal.loop-c-smaller-then-c-ne0
-loop-c-smaller-then-c-ne0 = counts-off.1
+loop-c-smaller-then-c-ne0 = counts_off.1
 
 pub loop-c-preserved-then-c-ne0 : goal.loop-c-preserved-then-c-ne0
-loop-c-preserved-then-c-ne0 = counts-off.0
+loop-c-preserved-then-c-ne0 = counts_off.0
 
-ends-one : goal.loop-c-preserved-then-usize_from_u8-m × goal.loop-c-smaller-then-usize_from_u8-m
-ends-one = both (λ c.
+ends_one : goal.loop-c-preserved-then-usize_from_u8-m × goal.loop-c-smaller-then-usize_from_u8-m
+ends_one = both (λ c.
     -- a subtask ends
     let ends : Ends c.args.times.now c.args.arrows.now c.args.order.now c.args.m c.args.first.now c.args.next.now c.args.rank.now c.loop-c.t c.loop-c.c c.loop-c.left c.loop-c.ready c.loop-c.groups c.loop-c.until c.loop-c.who c.loop-c.processors c.loop-c.starts c.loop-c.due.0 c.loop-c.free.0 c.loop-c.low =
     record {
@@ -286,13 +286,13 @@ ends-one = both (λ c.
     step_ended ends c.end_on-c.ensures.value c.end_on-c.ensures.until_after c.first_due-due.ensures)
 
 pub loop-c-smaller-then-usize_from_u8-m : goal.loop-c-smaller-then-usize_from_u8-m
-loop-c-smaller-then-usize_from_u8-m = ends-one.1
+loop-c-smaller-then-usize_from_u8-m = ends_one.1
 
 pub loop-c-preserved-then-usize_from_u8-m : goal.loop-c-preserved-then-usize_from_u8-m
-loop-c-preserved-then-usize_from_u8-m = ends-one.0
+loop-c-preserved-then-usize_from_u8-m = ends_one.0
 
-starts-one : goal.loop-c-preserved-then-x-order × goal.loop-c-smaller-then-x-order
-starts-one = both (λ c.
+starts_one : goal.loop-c-preserved-then-x-order × goal.loop-c-smaller-then-x-order
+starts_one = both (λ c.
     let seeks : Seeks c.next_to_go-x.result c.first_free-free.result.0 c.args.times.now c.args.arrows.now c.args.order.now c.args.m c.args.first.now c.args.next.now c.args.rank.now c.loop-c.t c.loop-c.c c.loop-c.left c.loop-c.ready c.loop-c.groups c.loop-c.until c.loop-c.who c.loop-c.processors c.loop-c.starts c.loop-c.due.0 c.loop-c.free.0 c.loop-c.low =
     record {
       job = c.requires.job;
@@ -307,14 +307,14 @@ starts-one = both (λ c.
     (c.start_on.ensures.processors_after, (c.start_on.ensures.starts_after, (c.start_on.ensures.until_after, c.start_on.ensures.who_after))))
 
 pub loop-c-smaller-then-x-order : goal.loop-c-smaller-then-x-order
-loop-c-smaller-then-x-order = starts-one.1
+loop-c-smaller-then-x-order = starts_one.1
 
 pub loop-c-preserved-then-x-order : goal.loop-c-preserved-then-x-order
-loop-c-preserved-then-x-order = starts-one.0
+loop-c-preserved-then-x-order = starts_one.0
 
 moves : goal.loop-c-preserved × goal.loop-c-smaller
 moves = both (λ c.
-    let its-end : get_or c.loop-c.until c.usize_from_u8-in-loop-c.result 0 ≡ get_or c.loop-c.until c.first_to_end-due.result.0 0 =
+    let its_end : get_or c.loop-c.until c.usize_from_u8-in-loop-c.result 0 ≡ get_or c.loop-c.until c.first_to_end-due.result.0 0 =
     ap (λ (p : ℕ). get_or c.loop-c.until p 0) c.usize_from_u8-in-loop-c.ensures.0 in
     let seeks : Seeks c.next_to_go-x.result c.first_free-free.result.0 c.args.times.now c.args.arrows.now c.args.order.now c.args.m c.args.first.now c.args.next.now c.args.rank.now c.loop-c.t c.loop-c.c c.loop-c.left c.loop-c.ready c.loop-c.groups c.loop-c.until c.loop-c.who c.loop-c.processors c.loop-c.starts c.loop-c.due.0 c.loop-c.free.0 c.loop-c.low =
     record {
@@ -326,7 +326,7 @@ moves = both (λ c.
       to_go = c.next_to_go-x.ensures;
       first_free = c.first_free-free.ensures.1;
     } in
-    step_moved seeks c.if-x-order.false c.first_to_end-due.ensures its-end c.if-t.false)
+    step_moved seeks c.if-x-order.false c.first_to_end-due.ensures its_end c.if-t.false)
 
 pub loop-c-smaller : goal.loop-c-smaller
 loop-c-smaller = moves.1

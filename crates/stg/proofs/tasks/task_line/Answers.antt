@@ -15,17 +15,15 @@ returns-then-index-i c =
     -- the line's first, second and third number
     let first : Passed c.args.text.now c.args.at c.in-Field.index c.in-Field.past_index =
     seen c.args.text.now c.args.at _ _ c.in-Field.is c.requires.0 c.next_number.ensures in
-    let c-first = first in
-    task_other c.args.text.now c.args.at _ c-first c.if-index-i.true
+    task_other c.args.text.now c.args.at _ first c.if-index-i.true
 
 pub returns-in_default-next_number : goal.returns-in_default-next_number
 returns-in_default-next_number c =
     -- the line's first, second and third number
     let first : Passed c.args.text.now c.args.at c.in-Field.index c.in-Field.past_index =
     seen c.args.text.now c.args.at _ _ c.in-Field.is c.requires.0 c.next_number.ensures in
-    let c-first = first in
-    task_one c.args.text.now c.args.at _ c-first
-    (no_field c.args.text.now _ _ c-first.inside c.next_number-2.ensures (opened c.in_default-next_number.in_default-next_number-own.keys2))
+    task_one c.args.text.now c.args.at _ first
+    (no_field c.args.text.now _ _ first.inside c.next_number-2.ensures (opened c.in_default-next_number.in_default-next_number-own.keys2))
 
 pub returns-in_default-next_number-2 : goal.returns-in_default-next_number-2
 returns-in_default-next_number-2 c =
@@ -33,12 +31,10 @@ returns-in_default-next_number-2 c =
     let first : Passed c.args.text.now c.args.at c.in-Field.index c.in-Field.past_index =
     seen c.args.text.now c.args.at _ _ c.in-Field.is c.requires.0 c.next_number.ensures in
     let second : Passed c.args.text.now c.in-Field.past_index c.in-Field-next_number.t c.in-Field-next_number.past_time =
-    let c-first = first in
-    seen c.args.text.now _ _ _ c.in-Field-next_number.is c-first.inside c.next_number-2.ensures in
-    let c-first = first in
-    let c-second = second in
-    task_two c.args.text.now c.args.at _ c-first c-second
-    (no_field c.args.text.now _ _ c-second.inside c.next_number-3.ensures (opened c.in_default-next_number-2.in_default-next_number-2-own.keys2))
+    seen c.args.text.now _ _ _ c.in-Field-next_number.is first.inside c.next_number-2.ensures in
+    let first = first in
+    task_two c.args.text.now c.args.at _ first second
+    (no_field c.args.text.now _ _ second.inside c.next_number-3.ensures (opened c.in_default-next_number-2.in_default-next_number-2-own.keys2))
 
 pub take_predecessors-requires : goal.take_predecessors-requires
 take_predecessors-requires c =
@@ -46,8 +42,7 @@ take_predecessors-requires c =
     let first : Passed c.args.text.now c.args.at c.in-Field.index c.in-Field.past_index =
     seen c.args.text.now c.args.at _ _ c.in-Field.is c.requires.0 c.next_number.ensures in
     let second : Passed c.args.text.now c.in-Field.past_index c.in-Field-next_number.t c.in-Field-next_number.past_time =
-    let c-first = first in
-    seen c.args.text.now _ _ _ c.in-Field-next_number.is c-first.inside c.next_number-2.ensures in
+    seen c.args.text.now _ _ _ c.in-Field-next_number.is first.inside c.next_number-2.ensures in
     let third : Headed c.args.text.now c.args.at c.in-Field.index c.in-Field-next_number.t c.in-Field-next_number-2.count c.in-Field-next_number-2.past_count =
     let q = second in
     headed first q
@@ -61,15 +56,13 @@ returns-in_default-take_predecessors c =
     let first : Passed c.args.text.now c.args.at c.in-Field.index c.in-Field.past_index =
     seen c.args.text.now c.args.at _ _ c.in-Field.is c.requires.0 c.next_number.ensures in
     let second : Passed c.args.text.now c.in-Field.past_index c.in-Field-next_number.t c.in-Field-next_number.past_time =
-    let c-first = first in
-    seen c.args.text.now _ _ _ c.in-Field-next_number.is c-first.inside c.next_number-2.ensures in
+    seen c.args.text.now _ _ _ c.in-Field-next_number.is first.inside c.next_number-2.ensures in
     let third : Headed c.args.text.now c.args.at c.in-Field.index c.in-Field-next_number.t c.in-Field-next_number-2.count c.in-Field-next_number-2.past_count =
     let q = second in
     headed first q
     (seen c.args.text.now _ _ _
     c.in-Field-next_number-2.is q.inside c.next_number-3.ensures) in
-    let c-third = third in
-    task_bad c.args.text.now c.args.at _ c-third c.in_default-take_predecessors.ensures
+    task_bad c.args.text.now c.args.at _ third c.in_default-take_predecessors.ensures
 
 pub returns-then-count-rest : goal.returns-then-count-rest
 returns-then-count-rest c =
@@ -77,15 +70,13 @@ returns-then-count-rest c =
     let first : Passed c.args.text.now c.args.at c.in-Field.index c.in-Field.past_index =
     seen c.args.text.now c.args.at _ _ c.in-Field.is c.requires.0 c.next_number.ensures in
     let second : Passed c.args.text.now c.in-Field.past_index c.in-Field-next_number.t c.in-Field-next_number.past_time =
-    let c-first = first in
-    seen c.args.text.now _ _ _ c.in-Field-next_number.is c-first.inside c.next_number-2.ensures in
+    seen c.args.text.now _ _ _ c.in-Field-next_number.is first.inside c.next_number-2.ensures in
     let third : Headed c.args.text.now c.args.at c.in-Field.index c.in-Field-next_number.t c.in-Field-next_number-2.count c.in-Field-next_number-2.past_count =
     let q = second in
     headed first q
     (seen c.args.text.now _ _ _
     c.in-Field-next_number-2.is q.inside c.next_number-3.ensures) in
-    let c-third = third in
-    task_miss c.args.text.now c.args.at _ c-third c.in-Are.ensures c.if-count-rest.true
+    task_miss c.args.text.now c.args.at _ third c.in-Are.ensures c.if-count-rest.true
 
 pub returns : goal.returns
 returns c =
@@ -93,13 +84,11 @@ returns c =
     let first : Passed c.args.text.now c.args.at c.in-Field.index c.in-Field.past_index =
     seen c.args.text.now c.args.at _ _ c.in-Field.is c.requires.0 c.next_number.ensures in
     let second : Passed c.args.text.now c.in-Field.past_index c.in-Field-next_number.t c.in-Field-next_number.past_time =
-    let c-first = first in
-    seen c.args.text.now _ _ _ c.in-Field-next_number.is c-first.inside c.next_number-2.ensures in
+    seen c.args.text.now _ _ _ c.in-Field-next_number.is first.inside c.next_number-2.ensures in
     let third : Headed c.args.text.now c.args.at c.in-Field.index c.in-Field-next_number.t c.in-Field-next_number-2.count c.in-Field-next_number-2.past_count =
     let q = second in
     headed first q
     (seen c.args.text.now _ _ _
     c.in-Field-next_number-2.is q.inside c.next_number-3.ensures) in
-    let c-third = third in
-    task_is c.args.text.now c.args.at _ c-third c.in-Are.ensures c.if-index-i.false
+    task_is c.args.text.now c.args.at _ third c.in-Are.ensures c.if-index-i.false
     c.if-count-rest.false
