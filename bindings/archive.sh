@@ -16,12 +16,9 @@ command -v rt > /dev/null || {
   exit 1
 }
 mkdir -p target
-# What api stands on is proved first, on every processor; `rt staticlib` alone goes crate by crate.
-below=$(sed -n 's/^api: *//p' crates.txt)
-echo "bindings/archive.sh: proving the planner; each crate is named when it is proved" >&2
-# shellcheck disable=SC2086
-if ! { rt check $below && rt staticlib api; } 2>&1 | tee target/archive.log | { grep --line-buffered '^rt: .* proved ([0-9]* s)' >&2 || true; }; then
+echo "bindings/archive.sh: proving the planner; each crate is named when its turn comes" >&2
+if ! (cd crates/api && rt lib) 2>&1 | tee target/archive.log | { grep --line-buffered '^rt: chose' >&2 || true; }; then
   cat target/archive.log >&2
   exit 1
 fi
-cp target/staticlib/libapi.a "$folder/libzulagbemi.a"
+cp crates/api/out/libapi.a "$folder/libzulagbemi.a"

@@ -9,7 +9,7 @@ use lib.ListN.{length, get_or, set, take, drop, replicate, length-set, length-dr
 use lib.Seq.{get_or-set_same, get_or-set_other, ext_get_or, get_or-take, get_or-drop, length-take-le}
 use Rattle.terms.specs.Plans.{at, not_placed}
 use Rattle.terms.specs.declared.Entry.{Entry}
-use Rattle.theory.proofs.Stores.{read_set, read_sets}
+use Rattle.theory.proofs.Stores.{read_sets}
 use Rattle.forms.specs.Forms.{entries, IsTable, IsSplit}
 use Rattle.forms.proofs.TwoRows.{entries_length, entries_get_d}
 

@@ -1,75 +1,99 @@
 // Reads an STG text from standard input, and prints C, P, S and the end of the list plan in the order 1..n for 1 to 4 processors.
 #![tactic(auto)]
 
+ghost use Rattle.std.specs.Io.{ReadsAtMost};
+
 use inputs::order_by_number;
-use libc::{STDIN_FILENO, STDOUT_FILENO};
 use listplan::draft_plan;
+use std::io;
+use std::io::Read;
 use stg::read_stg;
 use terms::{Counts, Figures, PlanEnd, Refusal};
 use verdict::judge;
 
-// A number, and the byte after it.
-fn print(number: u32, after: u8) {
-    io::print_decimal(STDOUT_FILENO, number as u64);
-    io::write_all(STDOUT_FILENO, &[after]);
+// A number, and the character after it.
+fn print(rt: &impl Print, number: u32, after: char) -> io::Result<()> {
+    print!(rt; "{number}{after}")
 }
 
-fn print_refusal(refusal: Refusal) {
-    io::write_all(STDOUT_FILENO, b"refused,");
-    print(refusal.number as u32, b'\n');
+fn print_refusal(rt: &impl Print, refusal: Refusal) -> io::Result<()> {
+    print!(rt; "refused,")?;
+    print(rt, refusal.number as u32, '\n')
 }
 
-fn print_line(m: u32, figures: Figures, end: u32) {
-    print(m, b',');
-    print(figures.c, b',');
-    print(figures.p, b',');
-    print(figures.s, b',');
-    print(end, b'\n');
+fn print_line(rt: &impl Print, m: u32, figures: Figures, end: u32) -> io::Result<()> {
+    print(rt, m, ',')?;
+    print(rt, figures.c, ',')?;
+    print(rt, figures.p, ',')?;
+    print(rt, figures.s, ',')?;
+    print(rt, end, '\n')
 }
 
 // One line of the table. An accepted graph is refused by neither call.
-fn report(times: &[u16], arrows: &[[u16; 2]], m: u32, order: &[u16]) {
+fn report(
+    rt: &impl Print,
+    times: &[u16],
+    arrows: &[[u16; 2]],
+    m: u32,
+    order: &[u16],
+) -> io::Result<()> {
     let answer = judge(times, arrows, m, 1);
     let draft = draft_plan(times, arrows, m, order, times.len());
     let reply = draft.reply;
     match reply {
-        PlanEnd::Refused(refusal) => print_refusal(refusal),
-        PlanEnd::Ends(end) => print_line(m, answer.figures, end),
+        PlanEnd::Refused(refusal) => print_refusal(rt, refusal),
+        PlanEnd::Ends(end) => print_line(rt, m, answer.figures, end),
     }
 }
 
-fn table(times: &[u16], arrows: &[[u16; 2]]) {
+fn table(rt: &impl Print, times: &[u16], arrows: &[[u16; 2]]) -> io::Result<()> {
     let all = order_by_number();
     let n = times.len();
     if 256 < n {
-        return;
+        return Ok(());
     }
     let order: &[u16] = &all[..n];
-    io::write_all(STDOUT_FILENO, b"M,C,P,S,end\n");
+    print!(rt; "M,C,P,S,end\n")?;
     let mut m: u32 = 1;
     while m <= 4 {
-        report(times, arrows, m, order);
+        report(rt, times, arrows, m, order)?;
         m += 1;
     }
+    Ok(())
 }
 
 // The table of the text's graph, or the refusal.
-fn run(text: &[u8]) {
+fn run(rt: &impl Print, text: &[u8]) -> io::Result<()> {
     let mut times = [0u16; 256];
     let mut arrows = [[0u16; 2]; 2048];
     match read_stg(text, &mut times, &mut arrows) {
-        Counts::Refused(refusal) => print_refusal(refusal),
+        Counts::Refused(refusal) => print_refusal(rt, refusal),
         Counts::Read(size) => {
             let subtasks = size.subtasks;
             let count = size.arrows;
-            table(&times[..subtasks], &arrows[..count]);
+            table(rt, &times[..subtasks], &arrows[..count])
         }
     }
 }
 
+// Reads until the buffer is full or the input ends, and answers how many bytes stand at its front then.
+fn read_full(input: &mut impl Read, buffer: &mut [u8]) -> io::Result<usize>
+    ensures { ReadsAtMost result buffer.new }
+{
+    let mut done = 0;
+    while done < buffer.len() {
+        let size = input.read(&mut buffer[done..])?;
+        if size == 0 {
+            return Ok(done);
+        }
+        done += size;
+    }
+    Ok(done)
+}
+
 // One byte more than a text may have is enough to refuse a longer one.
-fn main() {
-    let mut text = io::large_buffer();
-    let n = io::read_full(STDIN_FILENO, &mut text[..60001]);
-    run(&text[..n]);
+fn main(rt: HostRuntime) -> io::Result<()> {
+    let mut text = [0u8; 60001];
+    let n = read_full(&mut rt.stdin(), &mut text)?;
+    run(&rt, &text[..n])
 }

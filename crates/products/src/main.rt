@@ -4,142 +4,152 @@
 use graph::measure;
 use inputs::u32_from_u16;
 use joins::{end_to_end, nest_figures, side_by_side};
-use libc::STDOUT_FILENO;
+use std::io;
 use terms::{Counts, Measure};
 
-fn print(text: &[u8]) {
-    io::write_all(STDOUT_FILENO, text);
+fn print(rt: &impl Print, text: &[u8]) -> io::Result<()> {
+    rt.write_all(text)
 }
 
-fn print_number(number: u32) {
-    io::print_decimal(STDOUT_FILENO, number as u64);
+fn print_number(rt: &impl Print, number: u32) -> io::Result<()> {
+    print!(rt; "{number}")
 }
 
 // C and P, or the number of the refusal.
-fn print_measure(reply: Measure) {
+fn print_measure(rt: &impl Print, reply: Measure) -> io::Result<()> {
     match reply {
         Measure::Is(weights) => {
-            print(b" C,");
-            print_number(weights.c);
-            print(b" P,");
-            print_number(weights.p);
+            print(rt, b" C,")?;
+            print_number(rt, weights.c)?;
+            print(rt, b" P,")?;
+            print_number(rt, weights.p)
         }
         Measure::Refused(refusal) => {
-            print(b" refused,");
-            print_number(refusal.number as u32);
+            print(rt, b" refused,")?;
+            print_number(rt, refusal.number as u32)
         }
     }
 }
 
 // How many subtasks and arrows, or the number of the refusal.
-fn print_counts(reply: Counts) {
+fn print_counts(rt: &impl Print, reply: Counts) -> io::Result<()> {
     match reply {
         Counts::Read(size) => {
-            io::print_decimal(STDOUT_FILENO, size.subtasks as u64);
-            print(b" subtasks, ");
-            io::print_decimal(STDOUT_FILENO, size.arrows as u64);
-            print(b" arrows:");
+            let subtasks = size.subtasks;
+            let arrows = size.arrows;
+            print!(rt; "{subtasks} subtasks, {arrows} arrows:")
         }
         Counts::Refused(refusal) => {
-            print(b"refused,");
-            print_number(refusal.number as u32);
+            print(rt, b"refused,")?;
+            print_number(rt, refusal.number as u32)
         }
     }
 }
 
-fn print_time(time: u16) {
-    print(b" ");
-    print_number(u32_from_u16(time));
+fn print_time(rt: &impl Print, time: u16) -> io::Result<()> {
+    print(rt, b" ")?;
+    print_number(rt, u32_from_u16(time))
 }
 
-fn print_times(times: &[u16]) {
+fn print_times(rt: &impl Print, times: &[u16]) -> io::Result<()> {
     let mut i: usize = 0;
     while i < times.len() {
-        print_time(times[i]);
+        print_time(rt, times[i])?;
         i += 1;
     }
+    Ok(())
 }
 
-fn print_arrow(arrow: [u16; 2]) {
-    print_time(arrow[0]);
-    print(b" to");
-    print_time(arrow[1]);
+fn print_arrow(rt: &impl Print, arrow: [u16; 2]) -> io::Result<()> {
+    print_time(rt, arrow[0])?;
+    print(rt, b" to")?;
+    print_time(rt, arrow[1])
 }
 
-fn print_arrows(arrows: &[[u16; 2]]) {
+fn print_arrows(rt: &impl Print, arrows: &[[u16; 2]]) -> io::Result<()> {
     let mut i: usize = 0;
     while i < arrows.len() {
-        print(b",");
-        print_arrow(arrows[i]);
+        print(rt, b",")?;
+        print_arrow(rt, arrows[i])?;
         i += 1;
     }
+    Ok(())
 }
 
 // Example 15: a fork and a meeting, end to end, in rows of their size.
-fn behind() {
+fn behind(rt: &impl Print) -> io::Result<()> {
     let mut times = [7u16; 6];
     let mut arrows = [[7u16; 2]; 8];
-    print(b"15: end to end ");
-    print_counts(end_to_end(
-        &[3, 2, 1],
-        &[[1, 3], [1, 2]],
-        &[4, 5, 6],
-        &[[2, 3], [1, 3]],
-        &mut times,
-        &mut arrows,
-    ));
-    print_times(&times);
-    print_arrows(&arrows);
-    print_measure(measure(&times, &arrows));
+    print(rt, b"15: end to end ")?;
+    print_counts(
+        rt,
+        end_to_end(
+            &[3, 2, 1],
+            &[[1, 3], [1, 2]],
+            &[4, 5, 6],
+            &[[2, 3], [1, 3]],
+            &mut times,
+            &mut arrows,
+        ),
+    )?;
+    print_times(rt, &times)?;
+    print_arrows(rt, &arrows)?;
+    print_measure(rt, measure(&times, &arrows))
 }
 
 // And side by side.
-fn beside(times: &mut [u16], arrows: &mut [[u16; 2]]) {
-    print_counts(side_by_side(
-        &[3, 2, 1],
-        &[[1, 3], [1, 2]],
-        &[4, 5, 6],
-        &[[2, 3], [1, 3]],
-        times,
-        arrows,
-    ));
-    print_times(times);
-    print_arrows(arrows);
+fn beside(rt: &impl Print, times: &mut [u16], arrows: &mut [[u16; 2]]) -> io::Result<()> {
+    print_counts(
+        rt,
+        side_by_side(
+            &[3, 2, 1],
+            &[[1, 3], [1, 2]],
+            &[4, 5, 6],
+            &[[2, 3], [1, 3]],
+            times,
+            arrows,
+        ),
+    )?;
+    print_times(rt, times)?;
+    print_arrows(rt, arrows)
 }
 
 // In rows of its size; in rows with a place more, which stays as it was; and in rows that are too short, which stay so too.
-fn all_beside() {
+fn all_beside(rt: &impl Print) -> io::Result<()> {
     let mut times = [7u16; 6];
     let mut arrows = [[7u16; 2]; 4];
-    print(b"\n15: side by side ");
-    beside(&mut times, &mut arrows);
-    print_measure(measure(&times, &arrows));
+    print(rt, b"\n15: side by side ")?;
+    beside(rt, &mut times, &mut arrows)?;
+    print_measure(rt, measure(&times, &arrows))?;
     let mut more = [7u16; 7];
     let mut more_arrows = [[7u16; 2]; 5];
-    print(b"\nwith more room ");
-    beside(&mut more, &mut more_arrows);
+    print(rt, b"\nwith more room ")?;
+    beside(rt, &mut more, &mut more_arrows)?;
     let mut less_arrows = [[7u16; 2]; 3];
-    print(b"\nwith less ");
-    beside(&mut more, &mut less_arrows);
+    print(rt, b"\nwith less ")?;
+    beside(rt, &mut more, &mut less_arrows)
 }
 
 // Example 16: a sequence of the fork and of a group; and what is the writing of no nest.
-fn nests() {
-    print(b"\n16:");
-    print_measure(nest_figures(&[[1, 2, 0], [0, 6, 5], [2, 2, 0], [0, 15, 11], [0, 6, 5]]));
-    print(b"\nno nest:");
-    print_measure(nest_figures(&[[0; 3]; 0]));
-    print_measure(nest_figures(&[[2, 1, 0], [0, 6, 5]]));
-    print_measure(nest_figures(&[[1, 1, 0], [0, 6, 5], [0, 6, 5]]));
-    print_measure(nest_figures(&[[1, 2, 0], [0, 6, 5]]));
-    print_measure(nest_figures(&[[1, 1, 0], [0, 5, 6]]));
-    print_measure(nest_figures(&[[1, 17, 0], [0, 6, 5]]));
-    print_measure(nest_figures(&[[1, 1, 1], [0, 6, 5]]));
-    print(b"\n");
+fn nests(rt: &impl Print) -> io::Result<()> {
+    print(rt, b"\n16:")?;
+    print_measure(
+        rt,
+        nest_figures(&[[1, 2, 0], [0, 6, 5], [2, 2, 0], [0, 15, 11], [0, 6, 5]]),
+    )?;
+    print(rt, b"\nno nest:")?;
+    print_measure(rt, nest_figures(&[[0; 3]; 0]))?;
+    print_measure(rt, nest_figures(&[[2, 1, 0], [0, 6, 5]]))?;
+    print_measure(rt, nest_figures(&[[1, 1, 0], [0, 6, 5], [0, 6, 5]]))?;
+    print_measure(rt, nest_figures(&[[1, 2, 0], [0, 6, 5]]))?;
+    print_measure(rt, nest_figures(&[[1, 1, 0], [0, 5, 6]]))?;
+    print_measure(rt, nest_figures(&[[1, 17, 0], [0, 6, 5]]))?;
+    print_measure(rt, nest_figures(&[[1, 1, 1], [0, 6, 5]]))?;
+    print(rt, b"\n")
 }
 
-fn main() {
-    behind();
-    all_beside();
-    nests();
+fn main(rt: HostRuntime) -> io::Result<()> {
+    behind(&rt)?;
+    all_beside(&rt)?;
+    nests(&rt)
 }

@@ -1,5 +1,5 @@
 -- docs/PLANNER.md, "STG text": the lines of a text, the fields of a line, the number of a field.
-use Rattle.std.specs.Prelude.{List, [], ◌∷◌, map, Bool, true, false, cond, not, ◌&&◌, ◌||◌, ℕ, suc, ◌+◌, ◌-◌, ◌*◌, eqb, leb, length, drop}
+use Rattle.std.specs.Prelude.{List, [], ◌∷◌, map, Bool, true, false, cond, not, ◌&&◌, ◌||◌, ℕ, suc, ◌+◌, ◌-◌, ◌*◌, eqb, leb, length}
 
 -- whether all of a list pass a test
 unfoldable pub all_pass {ℓ} : {A : Type ℓ} → (A → Bool) → List A → Bool

@@ -4,8 +4,7 @@ use mathlib.Core.Path.{refl}
 use mathlib.Core.List.{List}
 use Prim.Native.Nat.{ℕ, ◌≤◌}
 use native.Mathlib.Omega.{arith}
-use lib.ListN.{length, take}
-use Rattle.terms.specs.Graphs.{Among}
+use lib.ListN.{take}
 use Rattle.terms.specs.Replies.{IsAnswer, IsChecked}
 use Rattle.terms.specs.Alterations.{Altered, SaysFits}
 use Rattle.terms.specs.declared.Entry.{Entry}

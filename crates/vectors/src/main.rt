@@ -4,32 +4,56 @@
 mod stored;
 
 ghost use Rattle.std.specs.Prelude.{◌≤◌, length};
-ghost use Rattle.io.specs.Counts.{IsPrefixLen};
+ghost use Rattle.std.specs.Io.{ReadsAtMost};
 
 use crate::stored::agrees;
-use libc::STDOUT_FILENO;
+use std::io::{Error, ErrorKind, Read};
+use std::rt::Files;
+use std::{fs, io, str};
+
+// Reads until the buffer is full or the file ends, and answers how many bytes stand at its front then.
+fn read_full(file: &mut impl Read, buffer: &mut [u8]) -> io::Result<usize>
+    ensures { ReadsAtMost result buffer.new }
+{
+    let mut done = 0;
+    while done < buffer.len() {
+        let size = file.read(&mut buffer[done..])?;
+        if size == 0 {
+            return Ok(done);
+        }
+        done += size;
+    }
+    Ok(done)
+}
+
+// The name of a file of data/.
+fn path_of(name: &[u8]) -> io::Result<&str> {
+    match str::from_utf8(name) {
+        Ok(path) => Ok(path),
+        Err(_) => Err(Error::new(ErrorKind::InvalidData, "a name that is no text")),
+    }
+}
 
 // What a file of data/ begins with.
-fn read_file(name: &[u8], buffer: &mut [u8]) -> usize
-    ensures { IsPrefixLen result buffer.new }
+fn read_file(rt: &impl Files, name: &[u8], buffer: &mut [u8]) -> io::Result<usize>
+    ensures { ReadsAtMost result buffer.new }
 {
-    let fd = os::open_read(name);
-    let size = io::read_full(fd, buffer);
-    libc::close(fd);
-    size
+    let path = path_of(name)?;
+    let mut file = fs::open(rt, path)?;
+    read_full(&mut file, buffer)
 }
 
 // One text, with its stored output.
-fn compare(name: &[u8], output_name: &[u8]) {
-    let mut text = io::large_buffer();
-    let mut output = io::buffer();
-    let size = read_file(name, &mut text);
-    let length = read_file(output_name, &mut output);
-    io::write_all(STDOUT_FILENO, name);
+fn compare(rt: &(impl Files + Print), name: &[u8], output_name: &[u8]) -> io::Result<()> {
+    let mut text = [0u8; 65536];
+    let mut output = [0u8; 4096];
+    let size = read_file(rt, name, &mut text)?;
+    let length = read_file(rt, output_name, &mut output)?;
+    rt.write_all(name)?;
     if agrees(&text[..size], &output[..length]) {
-        io::write_all(STDOUT_FILENO, b" agrees\n");
+        rt.write_all(b" agrees\n")
     } else {
-        io::write_all(STDOUT_FILENO, b" differs\n");
+        rt.write_all(b" differs\n")
     }
 }
 
@@ -49,30 +73,31 @@ fn line_end(list: &[u8], at: usize) -> usize
 }
 
 // The texts and their stored outputs, by name, a line each; at most 64.
-fn compare_all(texts: &[u8], outputs: &[u8]) {
+fn compare_all(rt: &(impl Files + Print), texts: &[u8], outputs: &[u8]) -> io::Result<()> {
     let mut at: usize = 0;
     let mut with: usize = 0;
     let mut k: usize = 0;
     while k < 64 {
         if texts.len() <= at {
-            return;
+            return Ok(());
         }
         if outputs.len() <= with {
-            return;
+            return Ok(());
         }
         let end = line_end(texts, at);
         let output_end = line_end(outputs, with);
-        compare(&texts[at..end], &outputs[with..output_end]);
+        compare(rt, &texts[at..end], &outputs[with..output_end])?;
         at = end + 1;
         with = output_end + 1;
         k += 1;
     }
+    Ok(())
 }
 
-fn main() {
-    let mut texts = io::buffer();
-    let mut outputs = io::buffer();
-    let size = read_file(b"texts", &mut texts);
-    let length = read_file(b"outputs", &mut outputs);
-    compare_all(&texts[..size], &outputs[..length]);
+fn main(rt: HostRuntime) -> io::Result<()> {
+    let mut texts = [0u8; 4096];
+    let mut outputs = [0u8; 4096];
+    let size = read_file(&rt, b"texts", &mut texts)?;
+    let length = read_file(&rt, b"outputs", &mut outputs)?;
+    compare_all(&rt, &texts[..size], &outputs[..length])
 }

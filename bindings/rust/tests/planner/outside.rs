@@ -4,7 +4,7 @@ use crate::common::{ran, root};
 use crate::model;
 use std::fs;
 use std::path::PathBuf;
-use std::process::Command;
+use std::process::{Command, Stdio};
 use zulagbemi::{Arrow, Entry, Graph, MAX_ARROWS, MAX_SUBTASKS};
 
 /// What `frames` prints for these figures.
@@ -93,9 +93,10 @@ fn bench_program() {
         println!("rt is not on the PATH: frames is not tried");
         return;
     }
-    ran(Command::new("rt").args(["check", "frames"]).current_dir(root()));
+    let crate_folder = root().join("crates/frames");
+    ran(Command::new("rt").arg("run").stdin(Stdio::null()).current_dir(&crate_folder));
     for file in texts() {
-        let mut frames = Command::new(root().join("target/bin/frames"));
+        let mut frames = Command::new(crate_folder.join("out/frames"));
         let written = ran(frames.stdin(fs::File::open(&file).unwrap()));
         assert_eq!(written, fs::read_to_string(file.with_extension("out")).unwrap(), "{}", file.display());
     }

@@ -32,7 +32,7 @@ unfolding IsCheck
 slice_bounds-join_to-end c =
     let sound : Accepted (both_rows (graph_of c.args.first_times.now c.args.first_arrows.now) (graph_of c.args.second_times.now c.args.second_arrows.now)) =
     rw c.in-Sound.is at c.check_both.ensures in
-    sym (length-take-le {A = ℕ} _ c.firsts-count.new.1.1.0 (begun _ _ sound c.firsts-count.ensures).inside)
+    sym (length-take-le {A = ℕ} _ c.firsts-count.new.list (begun _ _ sound c.firsts-count.ensures).inside)
 
 pub overflow_mul-ends : goal.overflow_mul-ends
 unfolding IsCheck

@@ -19,7 +19,8 @@ pub put_joined-requires : goal.put_joined-requires
 unfolding IsCheck
 put_joined-requires c =
     let accepts = rw c.in-Sound.is at c.check_made.ensures in
-    (c.requires.joinable, join_room c.requires.joinable c.requires.added_value c.args.times.now c.args.arrows.now accepts)
+    let room = join_room c.requires.joinable c.requires.added_value c.args.times.now c.args.arrows.now accepts in
+    record { joinable = c.requires.joinable; second_times_in_bounds = room.0; second_arrows_in_bounds = room.1 }
 
 pub returns-in-Refused : goal.returns-in-Refused
 unfolding IsCheck

@@ -13,23 +13,23 @@ loop-j-init c = (omega arith, noughts_none)
 
 pub overflow_add-count : goal.overflow_add-count
 overflow_add-count c =
-    let c-loop = c.loop-j in
-    let c-pre = c.requires in
-    omega (arith, nought_small c.nought_of-count.ensures, c-loop.invariant.0, c-loop.invariant.1.most, c-pre)
+    let c_loop = c.loop-j in
+    let c_pre = c.requires in
+    omega (arith, nought_small c.nought_of-count.ensures, c_loop.invariant.0, c_loop.invariant.1.most, c_pre)
 
 pub loop-j-smaller : goal.loop-j-smaller
 loop-j-smaller c = omega (arith, c.loop-j-test.true)
 
 pub loop-j-preserved : goal.loop-j-preserved
 loop-j-preserved c =
-    let c-loop = c.loop-j in
+    let c_loop = c.loop-j in
     -- the time that was read is that of the next subtask
-    let read : c.time_of.result ≡ time_of c.args.times.now (c-loop.j + 1) = c.time_of.ensures.is (record { low = omega arith; high = omega arith }) in
+    let read : c.time_of.result ≡ time_of c.args.times.now (c_loop.j + 1) = c.time_of.ensures.is (record { low = omega arith; high = omega arith }) in
     let counted = subst (λ t. NoughtOf t c.nought_of-count.result) read c.nought_of-count.ensures in
-    (omega (arith, c.loop-j-test.true), noughts_more c-loop.invariant.1 counted)
+    (omega (arith, c.loop-j-test.true), noughts_more c_loop.invariant.1 counted)
 
 pub returns : goal.returns
 returns c =
-    let c-args = c.args in
-    let c-loop = c.loop-j in
-    let e : length c-args.times.now ≡ c-loop.j = omega (arith, c-loop.invariant.0, c.loop-j-test.false) in rw e c-loop.invariant.1
+    let c_args = c.args in
+    let c_loop = c.loop-j in
+    let e : length c_args.times.now ≡ c_loop.j = omega (arith, c_loop.invariant.0, c.loop-j-test.false) in rw e c_loop.invariant.1

@@ -1,6 +1,5 @@
 -- `draft_plan`: the draft is the list plan, or the refusal of the table. Assumes nothing.
-use mathlib.Core.Path.{◌≡◌, sym, ap, ◌∙◌}
-use mathlib.Core.Bool.{Bool, not, not-not}
+use mathlib.Core.Path.{sym}
 use Prim.Native.Nat.{ℕ, ◌≤◌}
 use lib.ListN.{length, replicate}
 use lib.Seq.{length-take-le}
@@ -12,10 +11,6 @@ use Rattle.theory.proofs.Firsts.{said, unsaid}
 use Rattle.theory.proofs.Stores.{take_noughts}
 use Rattle.listplan.proofs.Drafted.{told_sound, refused_on, refused_order, refused_room, planned_draft, refused_draft}
 use Rattle.listplan.proofs.draft_plan.Goals as goal
-
--- a test of the contrary
-contrary : (b : Bool) {c : Bool} → not b ≡ c → b ≡ not c
-contrary b e = sym (not-not b) ∙ ap not e
 
 pub check_on-requires : goal.check_on-requires
 check_on-requires c = tt
@@ -45,7 +40,7 @@ pub returns-then-not-is_order : goal.returns-then-not-is_order
 returns-then-not-is_order c =
     let accepted : Accepted (on_rows c.args.times.now c.args.arrows.now c.args.m) =
     told_sound _ _ _ c.in-Sound.is c.check_on.ensures in
-    let not_so = unsaid (contrary c.is_order.result c.if-not-is_order.true) c.is_order.ensures in
+    let not_so = unsaid c.if-not-is_order.true c.is_order.ensures in
     refused_draft _ _ _ _ _ c.refused-then-not-is_order.ensures (rw c.refuse.ensures (refused_order _ _ _ _ _ accepted not_so))
 
 pub refuse-requires-then-room-n : goal.refuse-requires-then-room-n
@@ -59,7 +54,7 @@ returns-then-room-n c =
     let accepted : Accepted (on_rows c.args.times.now c.args.arrows.now c.args.m) =
     told_sound _ _ _ c.in-Sound.is c.check_on.ensures in
     let ordered : IsOrder c.args.times.now c.args.order.now =
-    said (contrary c.is_order.result c.if-not-is_order.false) c.is_order.ensures in
+    said c.if-not-is_order.false c.is_order.ensures in
     let r = refused_room _ _ _ _ _ accepted ordered c.if-room-n.true in
     refused_draft _ _ _ _ _ c.refused-then-room-n.ensures (rw c.refuse-then-room-n.ensures r)
 
@@ -103,7 +98,7 @@ planned-requires c =
     let accepted : Accepted (on_rows c.args.times.now c.args.arrows.now c.args.m) =
     told_sound _ _ _ c.in-Sound.is c.check_on.ensures in
     let ordered : IsOrder c.args.times.now c.args.order.now =
-    said (contrary c.is_order.result c.if-not-is_order.false) c.is_order.ensures in
+    said c.if-not-is_order.false c.is_order.ensures in
     let few : length c.args.times.now ≤ 256 =
     (sound_on _ _ _ accepted).0.count.high in
     let graph = sound_on _ _ _ accepted in
@@ -115,5 +110,5 @@ returns c =
     let accepted : Accepted (on_rows c.args.times.now c.args.arrows.now c.args.m) =
     told_sound _ _ _ c.in-Sound.is c.check_on.ensures in
     let ordered : IsOrder c.args.times.now c.args.order.now =
-    said (contrary c.is_order.result c.if-not-is_order.false) c.is_order.ensures in
+    said c.if-not-is_order.false c.is_order.ensures in
     planned_draft _ _ _ _ _ accepted ordered c.if-room-n.false (rw c.usize_from_u32.ensures at c.planned.ensures)

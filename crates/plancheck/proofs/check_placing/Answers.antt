@@ -1,12 +1,12 @@
 -- `check_placing`: the first row of 13 to 17 that holds of a plan in two rows. Assumes nothing.
 use mathlib.Core.Path.{refl}
-use Prim.Native.Nat.{ℕ, ◌-◌, ◌≤◌}
+use Prim.Native.Nat.{◌-◌, ◌≤◌}
 use native.Mathlib.Omega.{arith}
-use Rattle.terms.specs.Graphs.{Among, IsSubtask, time_of}
+use Rattle.terms.specs.Graphs.{time_of}
 use Rattle.terms.specs.Replies.{IsCheck}
 use Rattle.theory.proofs.Firsts.{shown}
 use Rattle.theory.proofs.SoundPlans.{SoundPlan}
-use Rattle.forms.specs.Forms.{entries, item_of}
+use Rattle.forms.specs.Forms.{entries}
 use Rattle.plancheck.specs.Known.{Timed}
 use Rattle.plancheck.specs.Sweeps.{ApartAndBusy}
 use Rattle.plancheck.proofs.SubtaskTests.{Prepared, answer_13, placed_by, answer_14, timed_by, answer_15, prepared_by}
@@ -29,15 +29,15 @@ overflow_cast-late c =
 pub returns-then-late-ne0 : goal.returns-then-late-ne0
 unfolding IsCheck
 returns-then-late-ne0 c =
-    let c-placed = placed_by c.requires c.first_misplaced-misplaced.ensures c.if-misplaced-ne0.false in
-    answer_14 c.requires c-placed c.first_late-late.ensures c.if-late-ne0.true c.refuse_at-then-late-ne0.ensures
+    let c_placed = placed_by c.requires c.first_misplaced-misplaced.ensures c.if-misplaced-ne0.false in
+    answer_14 c.requires c_placed c.first_late-late.ensures c.if-late-ne0.true c.refuse_at-then-late-ne0.ensures
 
 pub latest_ends-requires : goal.latest_ends-requires
 latest_ends-requires c =
     -- after 14
     let timed : Timed c.args.times.now c.args.starts.now =
-    let c-placed = placed_by c.requires c.first_misplaced-misplaced.ensures c.if-misplaced-ne0.false in
-    timed_by c.requires c-placed c.first_late-late.ensures c.if-late-ne0.false in
+    let c_placed = placed_by c.requires c.first_misplaced-misplaced.ensures c.if-misplaced-ne0.false in
+    timed_by c.requires c_placed c.first_late-late.ensures c.if-late-ne0.false in
     (c.requires.graph, timed, refl)
 
 pub first_early-early-requires : goal.first_early-early-requires
@@ -48,33 +48,30 @@ pub overflow_cast-early : goal.overflow_cast-early
 overflow_cast-early c =
     -- after 14
     let timed : Timed c.args.times.now c.args.starts.now =
-    let c-placed = placed_by c.requires c.first_misplaced-misplaced.ensures c.if-misplaced-ne0.false in
-    timed_by c.requires c-placed c.first_late-late.ensures c.if-late-ne0.false in
-    let c-timed = timed in
-    omega (arith, c.first_early-early.ensures.within, c-timed.long, c-timed.few)
+    let c_placed = placed_by c.requires c.first_misplaced-misplaced.ensures c.if-misplaced-ne0.false in
+    timed_by c.requires c_placed c.first_late-late.ensures c.if-late-ne0.false in
+    omega (arith, c.first_early-early.ensures.within, timed.long, timed.few)
 
 pub returns-then-early-ne0 : goal.returns-then-early-ne0
 unfolding IsCheck
 returns-then-early-ne0 c =
     -- after 14
     let timed : Timed c.args.times.now c.args.starts.now =
-    let c-placed = placed_by c.requires c.first_misplaced-misplaced.ensures c.if-misplaced-ne0.false in
-    timed_by c.requires c-placed c.first_late-late.ensures c.if-late-ne0.false in
-    let c-placed = placed_by c.requires c.first_misplaced-misplaced.ensures c.if-misplaced-ne0.false in
-    let c-timed = timed in
-    answer_15 c.requires c-placed c-timed c.latest_ends.ensures c.first_early-early.ensures c.if-early-ne0.true c.refuse_at-then-early-ne0.ensures
+    let c_placed = placed_by c.requires c.first_misplaced-misplaced.ensures c.if-misplaced-ne0.false in
+    timed_by c.requires c_placed c.first_late-late.ensures c.if-late-ne0.false in
+    let c_placed = placed_by c.requires c.first_misplaced-misplaced.ensures c.if-misplaced-ne0.false in
+    answer_15 c.requires c_placed timed c.latest_ends.ensures c.first_early-early.ensures c.if-early-ne0.true c.refuse_at-then-early-ne0.ensures
 
 pub passes_sweep-requires : goal.passes_sweep-requires
 passes_sweep-requires c =
     -- after 14
     let timed : Timed c.args.times.now c.args.starts.now =
-    let c-placed = placed_by c.requires c.first_misplaced-misplaced.ensures c.if-misplaced-ne0.false in
-    timed_by c.requires c-placed c.first_late-late.ensures c.if-late-ne0.false in
+    let c_placed = placed_by c.requires c.first_misplaced-misplaced.ensures c.if-misplaced-ne0.false in
+    timed_by c.requires c_placed c.first_late-late.ensures c.if-late-ne0.false in
     -- after 15
     let known : Prepared c.args.times.now c.args.arrows.now c.args.m c.args.procs.now c.args.starts.now c.latest_ends.new.ready =
-    let c-placed = placed_by c.requires c.first_misplaced-misplaced.ensures c.if-misplaced-ne0.false in
-    let c-timed = timed in
-    prepared_by c.requires c-placed c-timed c.latest_ends.ensures c.first_early-early.ensures c.if-early-ne0.false in
+    let c_placed = placed_by c.requires c.first_misplaced-misplaced.ensures c.if-misplaced-ne0.false in
+    prepared_by c.requires c_placed timed c.latest_ends.ensures c.first_early-early.ensures c.if-early-ne0.false in
     sweepable known
 
 pub returns-then-passes_sweep : goal.returns-then-passes_sweep
@@ -82,67 +79,61 @@ unfolding IsCheck
 returns-then-passes_sweep c =
     -- after 14
     let timed : Timed c.args.times.now c.args.starts.now =
-    let c-placed = placed_by c.requires c.first_misplaced-misplaced.ensures c.if-misplaced-ne0.false in
-    timed_by c.requires c-placed c.first_late-late.ensures c.if-late-ne0.false in
+    let c_placed = placed_by c.requires c.first_misplaced-misplaced.ensures c.if-misplaced-ne0.false in
+    timed_by c.requires c_placed c.first_late-late.ensures c.if-late-ne0.false in
     -- after 15
     let known : Prepared c.args.times.now c.args.arrows.now c.args.m c.args.procs.now c.args.starts.now c.latest_ends.new.ready =
-    let c-placed = placed_by c.requires c.first_misplaced-misplaced.ensures c.if-misplaced-ne0.false in
-    let c-timed = timed in
-    prepared_by c.requires c-placed c-timed c.latest_ends.ensures c.first_early-early.ensures c.if-early-ne0.false in
+    let c_placed = placed_by c.requires c.first_misplaced-misplaced.ensures c.if-misplaced-ne0.false in
+    prepared_by c.requires c_placed timed c.latest_ends.ensures c.first_early-early.ensures c.if-early-ne0.false in
     -- what a sweep that comes to its end shows
     let swept : ApartAndBusy c.args.times.now c.args.m c.args.procs.now c.args.starts.now c.latest_ends.new.ready =
     shown c.if-passes_sweep.true c.passes_sweep.ensures in
-    let c-known = known in
-    accepted_busy c-known (busy_swept c-known swept)
+    accepted_busy known (busy_swept known swept)
 
 pub first_sharing-pair-requires : goal.first_sharing-pair-requires
 first_sharing-pair-requires c =
     -- after 14
     let timed : Timed c.args.times.now c.args.starts.now =
-    let c-placed = placed_by c.requires c.first_misplaced-misplaced.ensures c.if-misplaced-ne0.false in
-    timed_by c.requires c-placed c.first_late-late.ensures c.if-late-ne0.false in
+    let c_placed = placed_by c.requires c.first_misplaced-misplaced.ensures c.if-misplaced-ne0.false in
+    timed_by c.requires c_placed c.first_late-late.ensures c.if-late-ne0.false in
     -- after 15
     let known : Prepared c.args.times.now c.args.arrows.now c.args.m c.args.procs.now c.args.starts.now c.latest_ends.new.ready =
-    let c-placed = placed_by c.requires c.first_misplaced-misplaced.ensures c.if-misplaced-ne0.false in
-    let c-timed = timed in
-    prepared_by c.requires c-placed c-timed c.latest_ends.ensures c.first_early-early.ensures c.if-early-ne0.false in
-    let c-known = known in
-    (c-known.timed, c-known.given.long_procs)
+    let c_placed = placed_by c.requires c.first_misplaced-misplaced.ensures c.if-misplaced-ne0.false in
+    prepared_by c.requires c_placed timed c.latest_ends.ensures c.first_early-early.ensures c.if-early-ne0.false in
+    (known.timed, known.given.long_procs)
 
 pub overflow_cast-lower : goal.overflow_cast-lower
 overflow_cast-lower c =
     -- after 14
     let timed : Timed c.args.times.now c.args.starts.now =
-    let c-placed = placed_by c.requires c.first_misplaced-misplaced.ensures c.if-misplaced-ne0.false in
-    timed_by c.requires c-placed c.first_late-late.ensures c.if-late-ne0.false in
+    let c_placed = placed_by c.requires c.first_misplaced-misplaced.ensures c.if-misplaced-ne0.false in
+    timed_by c.requires c_placed c.first_late-late.ensures c.if-late-ne0.false in
     -- after 15
     let known : Prepared c.args.times.now c.args.arrows.now c.args.m c.args.procs.now c.args.starts.now c.latest_ends.new.ready =
-    let c-placed = placed_by c.requires c.first_misplaced-misplaced.ensures c.if-misplaced-ne0.false in
-    let c-timed = timed in
-    prepared_by c.requires c-placed c-timed c.latest_ends.ensures c.first_early-early.ensures c.if-early-ne0.false in
+    let c_placed = placed_by c.requires c.first_misplaced-misplaced.ensures c.if-misplaced-ne0.false in
+    prepared_by c.requires c_placed timed c.latest_ends.ensures c.first_early-early.ensures c.if-early-ne0.false in
     -- both numbers of the pair are those of subtasks
     let few : (c.first_sharing-pair.result.lower.0 ≤ 256) × (c.first_sharing-pair.result.higher.0 ≤ 256) =
-    let c-few = known.timed.few in
-    let c-higher = c.first_sharing-pair.ensures.first_higher (omega (arith, c.if-lower-ne0.true)) in
-    (omega (arith, c.first_sharing-pair.ensures.first_lower.within, c-few), omega (arith, c-higher.0.within, c-few)) in
+    let c_few = known.timed.few in
+    let c_higher = c.first_sharing-pair.ensures.first_higher (omega (arith, c.if-lower-ne0.true)) in
+    (omega (arith, c.first_sharing-pair.ensures.first_lower.within, c_few), omega (arith, c_higher.0.within, c_few)) in
     omega (arith, few)
 
 pub overflow_cast-higher : goal.overflow_cast-higher
 overflow_cast-higher c =
     -- after 14
     let timed : Timed c.args.times.now c.args.starts.now =
-    let c-placed = placed_by c.requires c.first_misplaced-misplaced.ensures c.if-misplaced-ne0.false in
-    timed_by c.requires c-placed c.first_late-late.ensures c.if-late-ne0.false in
+    let c_placed = placed_by c.requires c.first_misplaced-misplaced.ensures c.if-misplaced-ne0.false in
+    timed_by c.requires c_placed c.first_late-late.ensures c.if-late-ne0.false in
     -- after 15
     let known : Prepared c.args.times.now c.args.arrows.now c.args.m c.args.procs.now c.args.starts.now c.latest_ends.new.ready =
-    let c-placed = placed_by c.requires c.first_misplaced-misplaced.ensures c.if-misplaced-ne0.false in
-    let c-timed = timed in
-    prepared_by c.requires c-placed c-timed c.latest_ends.ensures c.first_early-early.ensures c.if-early-ne0.false in
+    let c_placed = placed_by c.requires c.first_misplaced-misplaced.ensures c.if-misplaced-ne0.false in
+    prepared_by c.requires c_placed timed c.latest_ends.ensures c.first_early-early.ensures c.if-early-ne0.false in
     -- both numbers of the pair are those of subtasks
     let few : (c.first_sharing-pair.result.lower.0 ≤ 256) × (c.first_sharing-pair.result.higher.0 ≤ 256) =
-    let c-few = known.timed.few in
-    let c-higher = c.first_sharing-pair.ensures.first_higher (omega (arith, c.if-lower-ne0.true)) in
-    (omega (arith, c.first_sharing-pair.ensures.first_lower.within, c-few), omega (arith, c-higher.0.within, c-few)) in
+    let c_few = known.timed.few in
+    let c_higher = c.first_sharing-pair.ensures.first_higher (omega (arith, c.if-lower-ne0.true)) in
+    (omega (arith, c.first_sharing-pair.ensures.first_lower.within, c_few), omega (arith, c_higher.0.within, c_few)) in
     omega (arith, few)
 
 pub returns-then-lower-ne0 : goal.returns-then-lower-ne0
@@ -150,67 +141,58 @@ unfolding IsCheck
 returns-then-lower-ne0 c =
     -- after 14
     let timed : Timed c.args.times.now c.args.starts.now =
-    let c-placed = placed_by c.requires c.first_misplaced-misplaced.ensures c.if-misplaced-ne0.false in
-    timed_by c.requires c-placed c.first_late-late.ensures c.if-late-ne0.false in
+    let c_placed = placed_by c.requires c.first_misplaced-misplaced.ensures c.if-misplaced-ne0.false in
+    timed_by c.requires c_placed c.first_late-late.ensures c.if-late-ne0.false in
     -- after 15
     let known : Prepared c.args.times.now c.args.arrows.now c.args.m c.args.procs.now c.args.starts.now c.latest_ends.new.ready =
-    let c-placed = placed_by c.requires c.first_misplaced-misplaced.ensures c.if-misplaced-ne0.false in
-    let c-timed = timed in
-    prepared_by c.requires c-placed c-timed c.latest_ends.ensures c.first_early-early.ensures c.if-early-ne0.false in
-    let c-known = known in
-    answer_16 c-known _ c.first_sharing-pair.ensures c.if-lower-ne0.true c.refuse_pair.ensures
+    let c_placed = placed_by c.requires c.first_misplaced-misplaced.ensures c.if-misplaced-ne0.false in
+    prepared_by c.requires c_placed timed c.latest_ends.ensures c.first_early-early.ensures c.if-early-ne0.false in
+    answer_16 known _ c.first_sharing-pair.ensures c.if-lower-ne0.true c.refuse_pair.ensures
 
 pub earliest_idle-instant-requires : goal.earliest_idle-instant-requires
 earliest_idle-instant-requires c =
     -- after 14
     let timed : Timed c.args.times.now c.args.starts.now =
-    let c-placed = placed_by c.requires c.first_misplaced-misplaced.ensures c.if-misplaced-ne0.false in
-    timed_by c.requires c-placed c.first_late-late.ensures c.if-late-ne0.false in
+    let c_placed = placed_by c.requires c.first_misplaced-misplaced.ensures c.if-misplaced-ne0.false in
+    timed_by c.requires c_placed c.first_late-late.ensures c.if-late-ne0.false in
     -- after 15
     let known : Prepared c.args.times.now c.args.arrows.now c.args.m c.args.procs.now c.args.starts.now c.latest_ends.new.ready =
-    let c-placed = placed_by c.requires c.first_misplaced-misplaced.ensures c.if-misplaced-ne0.false in
-    let c-timed = timed in
-    prepared_by c.requires c-placed c-timed c.latest_ends.ensures c.first_early-early.ensures c.if-early-ne0.false in
-    let c-known = known in
-    (c-known.timed, c-known.row.long)
+    let c_placed = placed_by c.requires c.first_misplaced-misplaced.ensures c.if-misplaced-ne0.false in
+    prepared_by c.requires c_placed timed c.latest_ends.ensures c.first_early-early.ensures c.if-early-ne0.false in
+    (known.timed, known.row.long)
 
 pub returns-then-instant-lt-NEVER : goal.returns-then-instant-lt-NEVER
 unfolding IsCheck
 returns-then-instant-lt-NEVER c =
     -- after 14
     let timed : Timed c.args.times.now c.args.starts.now =
-    let c-placed = placed_by c.requires c.first_misplaced-misplaced.ensures c.if-misplaced-ne0.false in
-    timed_by c.requires c-placed c.first_late-late.ensures c.if-late-ne0.false in
+    let c_placed = placed_by c.requires c.first_misplaced-misplaced.ensures c.if-misplaced-ne0.false in
+    timed_by c.requires c_placed c.first_late-late.ensures c.if-late-ne0.false in
     -- after 15
     let known : Prepared c.args.times.now c.args.arrows.now c.args.m c.args.procs.now c.args.starts.now c.latest_ends.new.ready =
-    let c-placed = placed_by c.requires c.first_misplaced-misplaced.ensures c.if-misplaced-ne0.false in
-    let c-timed = timed in
-    prepared_by c.requires c-placed c-timed c.latest_ends.ensures c.first_early-early.ensures c.if-early-ne0.false in
+    let c_placed = placed_by c.requires c.first_misplaced-misplaced.ensures c.if-misplaced-ne0.false in
+    prepared_by c.requires c_placed timed c.latest_ends.ensures c.first_early-early.ensures c.if-early-ne0.false in
     -- after 16
     let sound : SoundPlan c.args.times.now c.args.arrows.now c.args.m (entries c.args.procs.now c.args.starts.now) =
-    let c-known = known in
-    sound_pairs c-known _ c.first_sharing-pair.ensures c.if-lower-ne0.false in
-    let c-known = known in
-    let c-sound = sound in
-    answer_17 c-known c-sound _ c.earliest_idle-instant.ensures c.if-instant-lt-NEVER.true c.refuse_at-then-instant-lt-NEVER.ensures
+    sound_pairs known _ c.first_sharing-pair.ensures c.if-lower-ne0.false in
+    let known = known in
+    answer_17 known sound _ c.earliest_idle-instant.ensures c.if-instant-lt-NEVER.true c.refuse_at-then-instant-lt-NEVER.ensures
 
 pub returns : goal.returns
 unfolding IsCheck time_of
 returns c =
     -- after 14
     let timed : Timed c.args.times.now c.args.starts.now =
-    let c-placed = placed_by c.requires c.first_misplaced-misplaced.ensures c.if-misplaced-ne0.false in
-    timed_by c.requires c-placed c.first_late-late.ensures c.if-late-ne0.false in
+    let c_placed = placed_by c.requires c.first_misplaced-misplaced.ensures c.if-misplaced-ne0.false in
+    timed_by c.requires c_placed c.first_late-late.ensures c.if-late-ne0.false in
     -- after 15
     let known : Prepared c.args.times.now c.args.arrows.now c.args.m c.args.procs.now c.args.starts.now c.latest_ends.new.ready =
-    let c-placed = placed_by c.requires c.first_misplaced-misplaced.ensures c.if-misplaced-ne0.false in
-    let c-timed = timed in
-    prepared_by c.requires c-placed c-timed c.latest_ends.ensures c.first_early-early.ensures c.if-early-ne0.false in
+    let c_placed = placed_by c.requires c.first_misplaced-misplaced.ensures c.if-misplaced-ne0.false in
+    prepared_by c.requires c_placed timed c.latest_ends.ensures c.first_early-early.ensures c.if-early-ne0.false in
     -- after 16
     let sound : SoundPlan c.args.times.now c.args.arrows.now c.args.m (entries c.args.procs.now c.args.starts.now) =
-    let c-known = known in
-    sound_pairs c-known _ c.first_sharing-pair.ensures c.if-lower-ne0.false in
-    let c-known = known in
-    accepted_busy c-known
-    (busy_instants c-known sound _ c.earliest_idle-instant.ensures
+    sound_pairs known _ c.first_sharing-pair.ensures c.if-lower-ne0.false in
+    let known = known in
+    accepted_busy known
+    (busy_instants known sound _ c.earliest_idle-instant.ensures
     (λ j s. omega (arith, c.shared_slice_known-1.given (j - 1))) c.if-instant-lt-NEVER.false)

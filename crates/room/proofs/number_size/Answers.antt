@@ -34,5 +34,5 @@ returns-then-x-lt1000000000 c = (sym (decimal_size 8 _ c.if-x-lt100000000.false 
 
 pub returns : goal.returns
 returns c =
-    let c-fits = c.ranges in
-    (sym (decimal_size 9 _ c.if-x-lt1000000000.false (omega (arith, c-fits))), omega arith, omega arith)
+    let c_fits = c.ranges in
+    (sym (decimal_size 9 _ c.if-x-lt1000000000.false (omega (arith, c_fits))), omega arith, omega arith)

@@ -17,9 +17,8 @@ check_read-requires c =
     -- the rows are long enough, and the text is short enough
     let fits : (256 ≤ length c.args.times.now) × (2048 ≤ length c.args.arrows.now) × (length c.args.text.now ≤ 60000) =
     room (length c.args.times.now) (length c.args.arrows.now) c.args.text.now _ c.check_room.ensures c.in-Sound.is in
-    let c-fits = fits in
-    let s = sized c.args.text.now c.args.times.now c.args.arrows.now _ _ c-fits _ c.read_lines.ensures _ c.in-Read.is in
-    (s.low, s.high, omega (arith, c.times-1.given, c-fits.0), omega (arith, c.arrows-1.given, c-fits.1))
+    let s = sized c.args.text.now c.args.times.now c.args.arrows.now _ _ fits _ c.read_lines.ensures _ c.in-Read.is in
+    (s.low, s.high, omega (arith, c.times-1.given, fits.0), omega (arith, c.arrows-1.given, fits.1))
 
 pub returns-in-Refused : goal.returns-in-Refused
 returns-in-Refused c =
@@ -36,8 +35,7 @@ returns-in-Refused-read_lines c =
     -- the rows are long enough, and the text is short enough
     let fits : (256 ≤ length c.args.times.now) × (2048 ≤ length c.args.arrows.now) × (length c.args.text.now ≤ 60000) =
     room (length c.args.times.now) (length c.args.arrows.now) c.args.text.now _ c.check_room.ensures c.in-Sound.is in
-    let c-fits = fits in
-    told_lines c.args.text.now c.args.times.now c.args.arrows.now _ _ c-fits _ c.read_lines.ensures _ c.in-Refused-read_lines.is
+    told_lines c.args.text.now c.args.times.now c.args.arrows.now _ _ fits _ c.read_lines.ensures _ c.in-Refused-read_lines.is
 
 pub shape_of-times-in-Refused-check_read : goal.shape_of-times-in-Refused-check_read
 shape_of-times-in-Refused-check_read c = c.times-1.given
@@ -50,8 +48,7 @@ returns-in-Refused-check_read c =
     -- the rows are long enough, and the text is short enough
     let fits : (256 ≤ length c.args.times.now) × (2048 ≤ length c.args.arrows.now) × (length c.args.text.now ≤ 60000) =
     room (length c.args.times.now) (length c.args.arrows.now) c.args.text.now _ c.check_room.ensures c.in-Sound.is in
-    let c-fits = fits in
-    told_check c.args.text.now c.args.times.now c.args.arrows.now _ _ c-fits _ c.read_lines.ensures _ c.in-Read.is _
+    told_check c.args.text.now c.args.times.now c.args.arrows.now _ _ fits _ c.read_lines.ensures _ c.in-Read.is _
     c.check_read.ensures _ c.in-Refused-check_read.is
 
 pub shape_of-times-in-Sound-check_read : goal.shape_of-times-in-Sound-check_read
@@ -65,6 +62,5 @@ returns-in-Sound-check_read c =
     -- the rows are long enough, and the text is short enough
     let fits : (256 ≤ length c.args.times.now) × (2048 ≤ length c.args.arrows.now) × (length c.args.text.now ≤ 60000) =
     room (length c.args.times.now) (length c.args.arrows.now) c.args.text.now _ c.check_room.ensures c.in-Sound.is in
-    let c-fits = fits in
-    told_read c.args.text.now c.args.times.now c.args.arrows.now _ _ c-fits _ c.read_lines.ensures _ c.in-Read.is _
+    told_read c.args.text.now c.args.times.now c.args.arrows.now _ _ fits _ c.read_lines.ensures _ c.in-Read.is _
     c.check_read.ensures c.in-Sound-check_read.is

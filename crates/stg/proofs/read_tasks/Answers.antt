@@ -14,18 +14,18 @@ tasked text at n ts ar ts' ar' r x e h = rw e at h
 
 pub take_closing-requires : goal.take_closing-requires
 take_closing-requires c =
-    ((tasked _ _ _ _ _ _ _ _ _ c.in-Counted.is c.take_subtasks.ensures).inside, omega arith)
+    (c.in-Counted.ensures.inside, omega arith)
 
 pub returns-in-Refused : goal.returns-in-Refused
 unfolding Leaves
-returns-in-Refused c = tasked _ _ _ _ _ _ _ _ _ c.in-Refused.is c.take_subtasks.ensures
+returns-in-Refused c = c.in-Refused.ensures
 
 pub returns-in-Refused-take_closing : goal.returns-in-Refused-take_closing
 returns-in-Refused-take_closing c =
-    closing_refused _ _ _ _ _ (tasked _ _ _ _ _ _ _ _ _ c.in-Counted.is c.take_subtasks.ensures) c.take_closing.ensures _
+    closing_refused _ _ _ _ _ c.in-Counted.ensures c.take_closing.ensures _
     c.in-Refused-take_closing.is
 
 pub returns-in-Sound : goal.returns-in-Sound
 returns-in-Sound c =
-    closing_sound _ _ _ _ _ (tasked _ _ _ _ _ _ _ _ _ c.in-Counted.is c.take_subtasks.ensures) c.take_closing.ensures c.in-Sound.is
+    closing_sound _ _ _ _ _ c.in-Counted.ensures c.take_closing.ensures c.in-Sound.is
     c.requires.1

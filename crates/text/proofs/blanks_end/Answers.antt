@@ -10,17 +10,17 @@ loop-i-init c = refl
 
 pub returns-then-not-is_blank : goal.returns-then-not-is_blank
 returns-then-not-is_blank c =
-    let c-args = c.args in
-    let c-loop = c.loop-i in
-    omega (arith, blanks_stop c-args.text.now c-loop.i (omega arith) (sym c.is_blank.ensures ∙ c.if-not-is_blank.true))
+    let c_args = c.args in
+    let c_loop = c.loop-i in
+    omega (arith, blanks_stop c_args.text.now c_loop.i (omega arith) (sym c.is_blank.ensures ∙ c.if-not-is_blank.true))
 
 pub loop-i-preserved : goal.loop-i-preserved
 loop-i-preserved c =
-    let c-args = c.args in
-    let c-loop = c.loop-i in
-    rw add-one (omega (arith, blanks_go c-args.text.now c-loop.i (omega arith) (sym c.is_blank.ensures ∙ c.if-not-is_blank.false)))
+    let c_args = c.args in
+    let c_loop = c.loop-i in
+    rw add-one (omega (arith, blanks_go c_args.text.now c_loop.i (omega arith) (sym c.is_blank.ensures ∙ c.if-not-is_blank.false)))
 
 pub returns : goal.returns
 returns c =
-    let c-args = c.args in
-    omega (arith, blanks_end c-args.text.now c.loop-i.i (omega arith))
+    let c_args = c.args in
+    omega (arith, blanks_end c_args.text.now c.loop-i.i (omega arith))

@@ -11,18 +11,18 @@ loop-i-init c = refl
 
 pub returns-then-not-is_digit : goal.returns-then-not-is_digit
 returns-then-not-is_digit c =
-    let c-args = c.args in
-    let c-loop = c.loop-i in
-    omega (arith, ap length (digits_stop c-args.text.now c-loop.i (omega arith) (sym c.is_digit.ensures ∙ c.if-not-is_digit.true)))
+    let c_args = c.args in
+    let c_loop = c.loop-i in
+    omega (arith, ap length (digits_stop c_args.text.now c_loop.i (omega arith) (sym c.is_digit.ensures ∙ c.if-not-is_digit.true)))
 
 pub loop-i-preserved : goal.loop-i-preserved
 loop-i-preserved c =
-    let c-args = c.args in
-    let c-loop = c.loop-i in
+    let c_args = c.args in
+    let c_loop = c.loop-i in
     rw add-one (omega
-    (arith, ap length (digits_go c-args.text.now c-loop.i (omega arith) (sym c.is_digit.ensures ∙ c.if-not-is_digit.false))))
+    (arith, ap length (digits_go c_args.text.now c_loop.i (omega arith) (sym c.is_digit.ensures ∙ c.if-not-is_digit.false))))
 
 pub returns : goal.returns
 returns c =
-    let c-args = c.args in
-    omega (arith, ap length (digits_end c-args.text.now c.loop-i.i (omega arith)))
+    let c_args = c.args in
+    omega (arith, ap length (digits_end c_args.text.now c.loop-i.i (omega arith)))

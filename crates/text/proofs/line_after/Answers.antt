@@ -10,17 +10,17 @@ loop-i-init c = refl
 
 pub returns-then-text-i-eq10 : goal.returns-then-text-i-eq10
 returns-then-text-i-eq10 c =
-    let c-args = c.args in
-    let c-loop = c.loop-i in
-    omega (arith, size_stop c-args.text.now c-loop.i (omega arith) c.if-text-i-eq10.true)
+    let c_args = c.args in
+    let c_loop = c.loop-i in
+    omega (arith, size_stop c_args.text.now c_loop.i (omega arith) c.if-text-i-eq10.true)
 
 pub loop-i-preserved : goal.loop-i-preserved
 loop-i-preserved c =
-    let c-args = c.args in
-    let c-loop = c.loop-i in
-    rw add-one (omega (arith, size_go c-args.text.now c-loop.i (omega arith) c.if-text-i-eq10.false))
+    let c_args = c.args in
+    let c_loop = c.loop-i in
+    rw add-one (omega (arith, size_go c_args.text.now c_loop.i (omega arith) c.if-text-i-eq10.false))
 
 pub returns : goal.returns
 returns c =
-    let c-args = c.args in
-    omega (arith, size_none c-args.text.now c.loop-i.i (omega arith))
+    let c_args = c.args in
+    omega (arith, size_none c_args.text.now c.loop-i.i (omega arith))

@@ -6,23 +6,23 @@ use Rattle.text.proofs.line_ends.Goals as goal
 
 pub returns-then-b-eq10 : goal.returns-then-b-eq10
 returns-then-b-eq10 c =
-    let c-args = c.args in
-    ends_here_feed c-args.text.now c-args.at (omega arith) c.if-b-eq10.true
+    let c_args = c.args in
+    ends_here_feed c_args.text.now c_args.at (omega arith) c.if-b-eq10.true
 
 pub returns-then-b-ne13 : goal.returns-then-b-ne13
 returns-then-b-ne13 c =
-    let c-args = c.args in
-    ends_here_other c-args.text.now c-args.at (omega arith) c.if-b-eq10.false c.if-b-ne13.true
+    let c_args = c.args in
+    ends_here_other c_args.text.now c_args.at (omega arith) c.if-b-eq10.false c.if-b-ne13.true
 
 pub returns-then-at-text : goal.returns-then-at-text
 returns-then-at-text c =
-    let c-args = c.args in
-    let c-if1 = c.if-b-eq10 in
-    ends_here_last c-args.text.now c-args.at (omega arith) c-if1.false c.if-b-ne13.false (omega arith)
+    let c_args = c.args in
+    let c_if1 = c.if-b-eq10 in
+    ends_here_last c_args.text.now c_args.at (omega arith) c_if1.false c.if-b-ne13.false (omega arith)
 
 pub returns : goal.returns
 returns c =
-    let c-args = c.args in
-    let c-if1 = c.if-b-eq10 in
-    let c-if2 = c.if-b-ne13 in
-    rw add-one (ends_here_next c-args.text.now c-args.at (omega arith) c-if1.false c-if2.false (omega arith))
+    let c_args = c.args in
+    let c_if1 = c.if-b-eq10 in
+    let c_if2 = c.if-b-ne13 in
+    rw add-one (ends_here_next c_args.text.now c_args.at (omega arith) c_if1.false c_if2.false (omega arith))

@@ -18,16 +18,16 @@ whole s at end q = rw (q, add-sub_cancel_left) (digits_part (drop at s))
 
 pub returns-then-end-at : goal.returns-then-end-at
 returns-then-end-at c =
-    let c-args = c.args in
-    none (digits (drop c-args.at c-args.text.now)) (omega arith)
+    let c_args = c.args in
+    none (digits (drop c_args.at c_args.text.now)) (omega arith)
 
 pub slice_bounds-result-end-2 : goal.slice_bounds-result-end-2
 slice_bounds-result-end-2 c =
-    let c-args = c.args in
-    omega (arith, digits_within c-args.text.now c-args.at _ refl (omega arith))
+    let c_args = c.args in
+    omega (arith, digits_within c_args.text.now c_args.at _ refl (omega arith))
 
 pub returns : goal.returns
 returns c =
-    let c-args = c.args in
-    let c-digits-end = c.digits_end-end in
-    whole c-args.text.now c-args.at c-digits-end.result c-digits-end.ensures
+    let c_args = c.args in
+    let c_digits_end = c.digits_end-end in
+    whole c_args.text.now c_args.at c_digits_end.result c_digits_end.ensures

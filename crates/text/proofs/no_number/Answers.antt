@@ -6,24 +6,24 @@ use Rattle.text.proofs.no_number.Goals as goal
 
 pub returns-then-text-at : goal.returns-then-text-at
 returns-then-text-at c =
-    let c-args = c.args in
-    none_end c-args.text.now c-args.at c.if-text-at.true
+    let c_args = c.args in
+    none_end c_args.text.now c_args.at c.if-text-at.true
 
 pub returns-then-not-line_ends : goal.returns-then-not-line_ends
 returns-then-not-line_ends c =
-    let c-args = c.args in
-    none_bad c-args.text.now c-args.at (omega arith) (sym c.line_ends.ensures ∙ c.if-not-line_ends.true)
+    let c_args = c.args in
+    none_bad c_args.text.now c_args.at (omega arith) (sym c.line_ends.ensures ∙ c.if-not-line_ends.true)
 
 pub returns-then-text-at-eq10 : goal.returns-then-text-at-eq10
 returns-then-text-at-eq10 c =
-    let c-args = c.args in
-    let c-line-ends = c.line_ends in
-    let c-if2 = c.if-not-line_ends in
-    none_feed c-args.text.now c-args.at (omega arith) (sym c-line-ends.ensures ∙ c-if2.false) c.if-text-at-eq10.true
+    let c_args = c.args in
+    let c_line_ends = c.line_ends in
+    let c_if2 = c.if-not-line_ends in
+    none_feed c_args.text.now c_args.at (omega arith) (sym c_line_ends.ensures ∙ c_if2.false) c.if-text-at-eq10.true
 
 pub returns : goal.returns
 returns c =
-    let c-args = c.args in
-    let c-line-ends = c.line_ends in
-    let c-if2 = c.if-not-line_ends in
-    none_return c-args.text.now c-args.at (omega arith) (sym c-line-ends.ensures ∙ c-if2.false) c.if-text-at-eq10.false
+    let c_args = c.args in
+    let c_line_ends = c.line_ends in
+    let c_if2 = c.if-not-line_ends in
+    none_return c_args.text.now c_args.at (omega arith) (sym c_line_ends.ensures ∙ c_if2.false) c.if-text-at-eq10.false

@@ -127,44 +127,44 @@ returns-else-m-eq1 c =
 pub offset_bounds-mark-u : goal.offset_bounds-mark-u
 offset_bounds-mark-u c =
     -- at the end of u's chain
-    let at-end : (c.loop-c.u < 257) × (c.loop-c.depth < 256) × (c.loop-c.placed < 256) =
+    let at_end : (c.loop-c.u < 257) × (c.loop-c.depth < 256) × (c.loop-c.placed < 256) =
     end_small c.loop-c.invariant c.if-c-ne0.false c.if-u-ne0.true in
-    scaled_Fits _ 257 2 at-end.0 (lit< tt)
+    scaled_Fits _ 257 2 at_end.0 (lit< tt)
 
 pub bounds-mark-u : goal.bounds-mark-u
 bounds-mark-u c =
     -- at the end of u's chain
-    let at-end : (c.loop-c.u < 257) × (c.loop-c.depth < 256) × (c.loop-c.placed < 256) =
+    let at_end : (c.loop-c.u < 257) × (c.loop-c.depth < 256) × (c.loop-c.placed < 256) =
     end_small c.loop-c.invariant c.if-c-ne0.false c.if-u-ne0.true in
-    at-end.0
+    at_end.0
 
 pub overflow_cast-order : goal.overflow_cast-order
 overflow_cast-order c =
     -- at the end of u's chain
-    let at-end : (c.loop-c.u < 257) × (c.loop-c.depth < 256) × (c.loop-c.placed < 256) =
+    let at_end : (c.loop-c.u < 257) × (c.loop-c.depth < 256) × (c.loop-c.placed < 256) =
     end_small c.loop-c.invariant c.if-c-ne0.false c.if-u-ne0.true in
-    omega (arith, at-end)
+    omega (arith, at_end)
 
 pub offset_bounds-order-placed : goal.offset_bounds-order-placed
 offset_bounds-order-placed c =
     -- at the end of u's chain
-    let at-end : (c.loop-c.u < 257) × (c.loop-c.depth < 256) × (c.loop-c.placed < 256) =
+    let at_end : (c.loop-c.u < 257) × (c.loop-c.depth < 256) × (c.loop-c.placed < 256) =
     end_small c.loop-c.invariant c.if-c-ne0.false c.if-u-ne0.true in
-    scaled_Fits _ 256 2 at-end.2 (lit< tt)
+    scaled_Fits _ 256 2 at_end.2 (lit< tt)
 
 pub bounds-order-placed : goal.bounds-order-placed
 bounds-order-placed c =
     -- at the end of u's chain
-    let at-end : (c.loop-c.u < 257) × (c.loop-c.depth < 256) × (c.loop-c.placed < 256) =
+    let at_end : (c.loop-c.u < 257) × (c.loop-c.depth < 256) × (c.loop-c.placed < 256) =
     end_small c.loop-c.invariant c.if-c-ne0.false c.if-u-ne0.true in
-    at-end.2
+    at_end.2
 
 pub overflow_add-placed : goal.overflow_add-placed
 overflow_add-placed c =
     -- at the end of u's chain
-    let at-end : (c.loop-c.u < 257) × (c.loop-c.depth < 256) × (c.loop-c.placed < 256) =
+    let at_end : (c.loop-c.u < 257) × (c.loop-c.depth < 256) × (c.loop-c.placed < 256) =
     end_small c.loop-c.invariant c.if-c-ne0.false c.if-u-ne0.true in
-    omega (arith, at-end)
+    omega (arith, at_end)
 
 pub overflow_sub-depth : goal.overflow_sub-depth
 overflow_sub-depth c = omega arith
@@ -172,16 +172,16 @@ overflow_sub-depth c = omega arith
 pub offset_bounds-stack-depth-else-depth-eq0 : goal.offset_bounds-stack-depth-else-depth-eq0
 offset_bounds-stack-depth-else-depth-eq0 c =
     -- at the end of u's chain
-    let at-end : (c.loop-c.u < 257) × (c.loop-c.depth < 256) × (c.loop-c.placed < 256) =
+    let at_end : (c.loop-c.u < 257) × (c.loop-c.depth < 256) × (c.loop-c.placed < 256) =
     end_small c.loop-c.invariant c.if-c-ne0.false c.if-u-ne0.true in
-    omega (arith, at-end)
+    omega (arith, at_end)
 
 pub bounds-stack-depth-else-depth-eq0 : goal.bounds-stack-depth-else-depth-eq0
 bounds-stack-depth-else-depth-eq0 c =
     -- at the end of u's chain
-    let at-end : (c.loop-c.u < 257) × (c.loop-c.depth < 256) × (c.loop-c.placed < 256) =
+    let at_end : (c.loop-c.u < 257) × (c.loop-c.depth < 256) × (c.loop-c.placed < 256) =
     end_small c.loop-c.invariant c.if-c-ne0.false c.if-u-ne0.true in
-    omega (arith, at-end)
+    omega (arith, at_end)
 
 pub overflow_sub-a : goal.overflow_sub-a
 overflow_sub-a c =
@@ -203,44 +203,44 @@ returns-then-root-n c = state_end c.loop-c.invariant c.if-u-ne0.false c.if-root-
 pub overflow_add-root : goal.overflow_add-root
 overflow_add-root c =
     -- at the next root
-    let at-root : c.loop-c.root + 1 < 257 =
+    let at_root : c.loop-c.root + 1 < 257 =
     root_small c.loop-c.invariant c.if-u-ne0.false c.if-root-n.false in
-    omega (arith, at-root)
+    omega (arith, at_root)
 
 pub offset_bounds-mark-root : goal.offset_bounds-mark-root
 offset_bounds-mark-root c =
     -- at the next root
-    let at-root : c.loop-c.root + 1 < 257 =
+    let at_root : c.loop-c.root + 1 < 257 =
     root_small c.loop-c.invariant c.if-u-ne0.false c.if-root-n.false in
-    scaled_Fits _ 257 2 at-root (lit< tt)
+    scaled_Fits _ 257 2 at_root (lit< tt)
 
 pub bounds-mark-root : goal.bounds-mark-root
 bounds-mark-root c =
     -- at the next root
-    let at-root : c.loop-c.root + 1 < 257 =
+    let at_root : c.loop-c.root + 1 < 257 =
     root_small c.loop-c.invariant c.if-u-ne0.false c.if-root-n.false in
-    at-root
+    at_root
 
 pub offset_bounds-mark-root-then-mark-root-eq1 : goal.offset_bounds-mark-root-then-mark-root-eq1
 offset_bounds-mark-root-then-mark-root-eq1 c =
     -- at the next root
-    let at-root : c.loop-c.root + 1 < 257 =
+    let at_root : c.loop-c.root + 1 < 257 =
     root_small c.loop-c.invariant c.if-u-ne0.false c.if-root-n.false in
-    scaled_Fits _ 257 2 at-root (lit< tt)
+    scaled_Fits _ 257 2 at_root (lit< tt)
 
 pub bounds-mark-root-then-mark-root-eq1 : goal.bounds-mark-root-then-mark-root-eq1
 bounds-mark-root-then-mark-root-eq1 c =
     -- at the next root
-    let at-root : c.loop-c.root + 1 < 257 =
+    let at_root : c.loop-c.root + 1 < 257 =
     root_small c.loop-c.invariant c.if-u-ne0.false c.if-root-n.false in
-    at-root
+    at_root
 
 pub chain_begin-c-requires-then-mark-root-eq1 : goal.chain_begin-c-requires-then-mark-root-eq1
 chain_begin-c-requires-then-mark-root-eq1 c =
     -- at the next root
-    let at-root : c.loop-c.root + 1 < 257 =
+    let at_root : c.loop-c.root + 1 < 257 =
     root_small c.loop-c.invariant c.if-u-ne0.false c.if-root-n.false in
-    at-root
+    at_root
 
 skips : goal.loop-c-preserved-then-m-eq0 × goal.loop-c-smaller-then-m-eq0
 skips = both (λ c.
@@ -299,12 +299,12 @@ loop-c-smaller-then-mark-root-eq1 = enters.1
 pub loop-c-preserved-then-mark-root-eq1 : goal.loop-c-preserved-then-mark-root-eq1
 loop-c-preserved-then-mark-root-eq1 = enters.0
 
-next-root : goal.loop-c-preserved × goal.loop-c-smaller
-next-root = both (λ c.
+next_root : goal.loop-c-preserved × goal.loop-c-smaller
+next_root = both (λ c.
     state_root c.loop-c.invariant c.if-u-ne0.false c.if-root-n.false c.if-mark-root-eq1.false)
 
 pub loop-c-smaller : goal.loop-c-smaller
-loop-c-smaller = next-root.1
+loop-c-smaller = next_root.1
 
 pub loop-c-preserved : goal.loop-c-preserved
-loop-c-preserved = next-root.0
+loop-c-preserved = next_root.0

@@ -51,15 +51,15 @@ chain_next-c-requires c =
     looks c.loop-c.invariant.tidy c.loop-c.invariant.along c.if-c-eq0.false c.source-from.ensures.0 in
     (at_arrow.some, at_arrow.few)
 
-next-chain : goal.loop-c-preserved-then-c-eq0 × goal.loop-c-smaller-then-c-eq0
-next-chain = both (λ c.
+next_chain : goal.loop-c-preserved-then-c-eq0 × goal.loop-c-smaller-then-c-eq0
+next_chain = both (λ c.
     rw c.chain_begin-c.ensures (met_next c.loop-c.invariant c.if-c-eq0.true c.if-v-n.false))
 
 pub loop-c-smaller-then-c-eq0 : goal.loop-c-smaller-then-c-eq0
-loop-c-smaller-then-c-eq0 = next-chain.1
+loop-c-smaller-then-c-eq0 = next_chain.1
 
 pub loop-c-preserved-then-c-eq0 : goal.loop-c-preserved-then-c-eq0
-loop-c-preserved-then-c-eq0 = next-chain.0
+loop-c-preserved-then-c-eq0 = next_chain.0
 
 passes : goal.loop-c-preserved × goal.loop-c-smaller
 passes = both (λ c.

@@ -51,17 +51,17 @@ pub offset_bounds-first-j : goal.offset_bounds-first-j
 offset_bounds-first-j c =
     let was : c.usize_from_u16-j.result ≡ get_or c.args.who.now c.args.processor.0 0 =
     c.usize_from_u16-j.ensures.0 ∙ ap (λ (p : ℕ). get_or c.args.who.now p 0) c.usize_from_u8-p.ensures.0 in
-    let was-in : c.usize_from_u16-j.result < 257 =
+    let was_in : c.usize_from_u16-j.result < 257 =
     rw was c.requires.processor_bound_2.0 in
-    omega (arith, was-in)
+    omega (arith, was_in)
 
 pub bounds-first-j : goal.bounds-first-j
 bounds-first-j c =
     let was : c.usize_from_u16-j.result ≡ get_or c.args.who.now c.args.processor.0 0 =
     c.usize_from_u16-j.ensures.0 ∙ ap (λ (p : ℕ). get_or c.args.who.now p 0) c.usize_from_u8-p.ensures.0 in
-    let was-in : c.usize_from_u16-j.result < 257 =
+    let was_in : c.usize_from_u16-j.result < 257 =
     rw was c.requires.processor_bound_2.0 in
-    was-in
+    was_in
 
 pub usize_from_u16-requires : goal.usize_from_u16-requires
 usize_from_u16-requires c = tt

@@ -27,23 +27,11 @@ pub count_off-low-requires : goal.count_off-low-requires
 count_off-low-requires c =
     -- an arrow is to be counted off
     let counts : Counts c.args.times.now c.args.arrows.now c.args.order.now c.args.m c.args.first.now c.args.next.now c.args.rank.now c.loop-c.t c.loop-c.c c.loop-c.left c.loop-c.ready c.loop-c.groups c.loop-c.until c.loop-c.who c.loop-c.processors c.loop-c.starts c.loop-c.due.0 c.loop-c.free.0 c.loop-c.low =
-      record { job = c.requires.job; now = c.loop-c.invariant; some = c.if-c-ne0.true } in
-    let seeks : Seeks c.next_to_go-x.result c.first_free-free.result.0 c.args.times.now c.args.arrows.now c.args.order.now c.args.m c.args.first.now c.args.next.now c.args.rank.now c.loop-c.t c.loop-c.c c.loop-c.left c.loop-c.ready c.loop-c.groups c.loop-c.until c.loop-c.who c.loop-c.processors c.loop-c.starts c.loop-c.due.0 c.loop-c.free.0 c.loop-c.low =
-      record {
-      job = c.requires.job;
-      now = c.loop-c.invariant;
-      none = c.if-c-ne0.false;
-      over = omega (arith, c.if-usize_from_u8-m.false, c.usize_from_u8.ensures.0);
-      one = c.first_free-free.ensures.0;
-      to_go = c.next_to_go-x.ensures;
-      first_free = c.first_free-free.ensures.1;
-    } in
-    let fits : (c.first_free-free.result.0 < 17) × (c.next_to_go-x.result < 256) × NoneBelow (IsMarked c.loop-c.ready) 256 c.next_to_go-x.result =
-      starter_fits seeks c.if-x-order.true in
+    record { job = c.requires.job; now = c.loop-c.invariant; some = c.if-c-ne0.true } in
     let at = counts in
     let making = at.now.making in
     let fits = arrow_fits at in
-    record { place_bound = fits.1; rank_len = (at.job.ranks.long, making.lefts.long, making.marks.long, at.now.grouped.long); bound = (fits.2, fits.3); }
+    record { place_bound = fits.1; rank_len = (at.job.ranks.long, making.lefts.long, making.marks.long, at.now.grouped.long); bound = (fits.2, fits.3) }
 
 pub overflow_sub-c-then-c-ne0 : goal.overflow_sub-c-then-c-ne0
 overflow_sub-c-then-c-ne0 c = omega arith
@@ -52,14 +40,14 @@ pub offset_bounds-next-c : goal.offset_bounds-next-c
 offset_bounds-next-c c =
     -- an arrow is to be counted off
     let counts : Counts c.args.times.now c.args.arrows.now c.args.order.now c.args.m c.args.first.now c.args.next.now c.args.rank.now c.loop-c.t c.loop-c.c c.loop-c.left c.loop-c.ready c.loop-c.groups c.loop-c.until c.loop-c.who c.loop-c.processors c.loop-c.starts c.loop-c.due.0 c.loop-c.free.0 c.loop-c.low =
-      record { job = c.requires.job; now = c.loop-c.invariant; some = c.if-c-ne0.true } in
+    record { job = c.requires.job; now = c.loop-c.invariant; some = c.if-c-ne0.true } in
     omega (arith, (arrow_fits counts).0)
 
 pub bounds-next-c : goal.bounds-next-c
 bounds-next-c c =
     -- an arrow is to be counted off
     let counts : Counts c.args.times.now c.args.arrows.now c.args.order.now c.args.m c.args.first.now c.args.next.now c.args.rank.now c.loop-c.t c.loop-c.c c.loop-c.left c.loop-c.ready c.loop-c.groups c.loop-c.until c.loop-c.who c.loop-c.processors c.loop-c.starts c.loop-c.due.0 c.loop-c.free.0 c.loop-c.low =
-      record { job = c.requires.job; now = c.loop-c.invariant; some = c.if-c-ne0.true } in
+    record { job = c.requires.job; now = c.loop-c.invariant; some = c.if-c-ne0.true } in
     omega (arith, (arrow_fits counts).0)
 
 pub usize_from_u16-c-requires : goal.usize_from_u16-c-requires
@@ -72,34 +60,22 @@ pub end_on-c-requires : goal.end_on-c-requires
 end_on-c-requires c =
     -- a subtask ends
     let ends : Ends c.args.times.now c.args.arrows.now c.args.order.now c.args.m c.args.first.now c.args.next.now c.args.rank.now c.loop-c.t c.loop-c.c c.loop-c.left c.loop-c.ready c.loop-c.groups c.loop-c.until c.loop-c.who c.loop-c.processors c.loop-c.starts c.loop-c.due.0 c.loop-c.free.0 c.loop-c.low =
-      record {
+    record {
       job = c.requires.job;
       now = c.loop-c.invariant;
       none = c.if-c-ne0.false;
       within = omega (arith, c.if-usize_from_u8-m.true, c.usize_from_u8.ensures.0);
     } in
-    let seeks : Seeks c.next_to_go-x.result c.first_free-free.result.0 c.args.times.now c.args.arrows.now c.args.order.now c.args.m c.args.first.now c.args.next.now c.args.rank.now c.loop-c.t c.loop-c.c c.loop-c.left c.loop-c.ready c.loop-c.groups c.loop-c.until c.loop-c.who c.loop-c.processors c.loop-c.starts c.loop-c.due.0 c.loop-c.free.0 c.loop-c.low =
-      record {
-      job = c.requires.job;
-      now = c.loop-c.invariant;
-      none = c.if-c-ne0.false;
-      over = omega (arith, c.if-usize_from_u8-m.false, c.usize_from_u8.ensures.0);
-      one = c.first_free-free.ensures.0;
-      to_go = c.next_to_go-x.ensures;
-      first_free = c.first_free-free.ensures.1;
-    } in
-    let fits : (c.first_free-free.result.0 < 17) × (c.next_to_go-x.result < 256) × NoneBelow (IsMarked c.loop-c.ready) 256 c.next_to_go-x.result =
-      starter_fits seeks c.if-x-order.true in
     let at = ends in
     let holders = at.now.making.holders in
     let fits = holder_fits at in
-    record { processor_bound = (fits.0, holders.long_until, holders.long_who); processor_bound_2 = (fits.1, at.job.chains.long_first); }
+    record { processor_bound = (fits.0, holders.long_until, holders.long_who); processor_bound_2 = (fits.1, at.job.chains.long_first) }
 
 pub overflow_add-due-then-usize_from_u8-m : goal.overflow_add-due-then-usize_from_u8-m
 overflow_add-due-then-usize_from_u8-m c =
     -- a subtask ends
     let ends : Ends c.args.times.now c.args.arrows.now c.args.order.now c.args.m c.args.first.now c.args.next.now c.args.rank.now c.loop-c.t c.loop-c.c c.loop-c.left c.loop-c.ready c.loop-c.groups c.loop-c.until c.loop-c.who c.loop-c.processors c.loop-c.starts c.loop-c.due.0 c.loop-c.free.0 c.loop-c.low =
-      record {
+    record {
       job = c.requires.job;
       now = c.loop-c.invariant;
       none = c.if-c-ne0.false;
@@ -111,7 +87,7 @@ pub first_due-due-requires : goal.first_due-due-requires
 first_due-due-requires c =
     -- a subtask ends
     let ends : Ends c.args.times.now c.args.arrows.now c.args.order.now c.args.m c.args.first.now c.args.next.now c.args.rank.now c.loop-c.t c.loop-c.c c.loop-c.left c.loop-c.ready c.loop-c.groups c.loop-c.until c.loop-c.who c.loop-c.processors c.loop-c.starts c.loop-c.due.0 c.loop-c.free.0 c.loop-c.low =
-      record {
+    record {
       job = c.requires.job;
       now = c.loop-c.invariant;
       none = c.if-c-ne0.false;
@@ -134,7 +110,7 @@ subtask_at-subtask-requires c = tt
 pub start_on-requires : goal.start_on-requires
 start_on-requires c =
     let seeks : Seeks c.next_to_go-x.result c.first_free-free.result.0 c.args.times.now c.args.arrows.now c.args.order.now c.args.m c.args.first.now c.args.next.now c.args.rank.now c.loop-c.t c.loop-c.c c.loop-c.left c.loop-c.ready c.loop-c.groups c.loop-c.until c.loop-c.who c.loop-c.processors c.loop-c.starts c.loop-c.due.0 c.loop-c.free.0 c.loop-c.low =
-      record {
+    record {
       job = c.requires.job;
       now = c.loop-c.invariant;
       none = c.if-c-ne0.false;
@@ -144,20 +120,23 @@ start_on-requires c =
       first_free = c.first_free-free.ensures.1;
     } in
     let fits : (c.first_free-free.result.0 < 17) × (c.next_to_go-x.result < 256) × NoneBelow (IsMarked c.loop-c.ready) 256 c.next_to_go-x.result =
-      starter_fits seeks c.if-x-order.true in
+    starter_fits seeks c.if-x-order.true in
     let at = seeks in
     let making = at.now.making in
-    record { subtask = (
+    record {
+      subtask = (
         rw c.subtask_at-subtask.ensures.0 (at.job.is_order.each _ c.if-x-order.true),
         at.job.graph.count.high,
         fits.0,
         omega (arith, making.early, at.job.work),
-      ); sizes = (making.sizes, making.holders.long_until, making.holders.long_who); }
+      );
+      sizes = (making.sizes, making.holders.long_until, making.holders.long_who);
+    }
 
 pub unmark-requires : goal.unmark-requires
 unmark-requires c =
     let seeks : Seeks c.next_to_go-x.result c.first_free-free.result.0 c.args.times.now c.args.arrows.now c.args.order.now c.args.m c.args.first.now c.args.next.now c.args.rank.now c.loop-c.t c.loop-c.c c.loop-c.left c.loop-c.ready c.loop-c.groups c.loop-c.until c.loop-c.who c.loop-c.processors c.loop-c.starts c.loop-c.due.0 c.loop-c.free.0 c.loop-c.low =
-      record {
+    record {
       job = c.requires.job;
       now = c.loop-c.invariant;
       none = c.if-c-ne0.false;
@@ -167,14 +146,14 @@ unmark-requires c =
       first_free = c.first_free-free.ensures.1;
     } in
     let fits : (c.first_free-free.result.0 < 17) × (c.next_to_go-x.result < 256) × NoneBelow (IsMarked c.loop-c.ready) 256 c.next_to_go-x.result =
-      starter_fits seeks c.if-x-order.true in
+    starter_fits seeks c.if-x-order.true in
     let at = seeks in
     (fits.1, at.now.making.marks.long, at.now.grouped, fits.2)
 
 pub overflow_add-low : goal.overflow_add-low
 overflow_add-low c =
     let seeks : Seeks c.next_to_go-x.result c.first_free-free.result.0 c.args.times.now c.args.arrows.now c.args.order.now c.args.m c.args.first.now c.args.next.now c.args.rank.now c.loop-c.t c.loop-c.c c.loop-c.left c.loop-c.ready c.loop-c.groups c.loop-c.until c.loop-c.who c.loop-c.processors c.loop-c.starts c.loop-c.due.0 c.loop-c.free.0 c.loop-c.low =
-      record {
+    record {
       job = c.requires.job;
       now = c.loop-c.invariant;
       none = c.if-c-ne0.false;
@@ -184,13 +163,13 @@ overflow_add-low c =
       first_free = c.first_free-free.ensures.1;
     } in
     let fits : (c.first_free-free.result.0 < 17) × (c.next_to_go-x.result < 256) × NoneBelow (IsMarked c.loop-c.ready) 256 c.next_to_go-x.result =
-      starter_fits seeks c.if-x-order.true in
+    starter_fits seeks c.if-x-order.true in
     omega (arith, fits.1)
 
 pub first_to_end-due-requires : goal.first_to_end-due-requires
 first_to_end-due-requires c =
     let seeks : Seeks c.next_to_go-x.result c.first_free-free.result.0 c.args.times.now c.args.arrows.now c.args.order.now c.args.m c.args.first.now c.args.next.now c.args.rank.now c.loop-c.t c.loop-c.c c.loop-c.left c.loop-c.ready c.loop-c.groups c.loop-c.until c.loop-c.who c.loop-c.processors c.loop-c.starts c.loop-c.due.0 c.loop-c.free.0 c.loop-c.low =
-      record {
+    record {
       job = c.requires.job;
       now = c.loop-c.invariant;
       none = c.if-c-ne0.false;
@@ -207,7 +186,7 @@ usize_from_u8-requires-in-loop-c c = tt
 pub offset_bounds-until-usize_from_u8 : goal.offset_bounds-until-usize_from_u8
 offset_bounds-until-usize_from_u8 c =
     let seeks : Seeks c.next_to_go-x.result c.first_free-free.result.0 c.args.times.now c.args.arrows.now c.args.order.now c.args.m c.args.first.now c.args.next.now c.args.rank.now c.loop-c.t c.loop-c.c c.loop-c.left c.loop-c.ready c.loop-c.groups c.loop-c.until c.loop-c.who c.loop-c.processors c.loop-c.starts c.loop-c.due.0 c.loop-c.free.0 c.loop-c.low =
-      record {
+    record {
       job = c.requires.job;
       now = c.loop-c.invariant;
       none = c.if-c-ne0.false;
@@ -216,14 +195,14 @@ offset_bounds-until-usize_from_u8 c =
       to_go = c.next_to_go-x.ensures;
       first_free = c.first_free-free.ensures.1;
     } in
-    let first-in : c.usize_from_u8-in-loop-c.result < 17 =
-      omega (arith, c.usize_from_u8-in-loop-c.ensures.0, c.first_to_end-due.ensures.within.high, seeks.job.within.high) in
-    omega (arith, first-in)
+    let first_in : c.usize_from_u8-in-loop-c.result < 17 =
+    omega (arith, c.usize_from_u8-in-loop-c.ensures.0, c.first_to_end-due.ensures.within.high, seeks.job.within.high) in
+    omega (arith, first_in)
 
 pub bounds-until-usize_from_u8 : goal.bounds-until-usize_from_u8
 bounds-until-usize_from_u8 c =
     let seeks : Seeks c.next_to_go-x.result c.first_free-free.result.0 c.args.times.now c.args.arrows.now c.args.order.now c.args.m c.args.first.now c.args.next.now c.args.rank.now c.loop-c.t c.loop-c.c c.loop-c.left c.loop-c.ready c.loop-c.groups c.loop-c.until c.loop-c.who c.loop-c.processors c.loop-c.starts c.loop-c.due.0 c.loop-c.free.0 c.loop-c.low =
-      record {
+    record {
       job = c.requires.job;
       now = c.loop-c.invariant;
       none = c.if-c-ne0.false;
@@ -232,14 +211,14 @@ bounds-until-usize_from_u8 c =
       to_go = c.next_to_go-x.ensures;
       first_free = c.first_free-free.ensures.1;
     } in
-    let first-in : c.usize_from_u8-in-loop-c.result < 17 =
-      omega (arith, c.usize_from_u8-in-loop-c.ensures.0, c.first_to_end-due.ensures.within.high, seeks.job.within.high) in
-    first-in
+    let first_in : c.usize_from_u8-in-loop-c.result < 17 =
+    omega (arith, c.usize_from_u8-in-loop-c.ensures.0, c.first_to_end-due.ensures.within.high, seeks.job.within.high) in
+    first_in
 
 pub shape_of-processors-then-t : goal.shape_of-processors-then-t
 shape_of-processors-then-t c =
     let seeks : Seeks c.next_to_go-x.result c.first_free-free.result.0 c.args.times.now c.args.arrows.now c.args.order.now c.args.m c.args.first.now c.args.next.now c.args.rank.now c.loop-c.t c.loop-c.c c.loop-c.left c.loop-c.ready c.loop-c.groups c.loop-c.until c.loop-c.who c.loop-c.processors c.loop-c.starts c.loop-c.due.0 c.loop-c.free.0 c.loop-c.low =
-      record {
+    record {
       job = c.requires.job;
       now = c.loop-c.invariant;
       none = c.if-c-ne0.false;
@@ -253,7 +232,7 @@ shape_of-processors-then-t c =
 pub shape_of-starts-then-t : goal.shape_of-starts-then-t
 shape_of-starts-then-t c =
     let seeks : Seeks c.next_to_go-x.result c.first_free-free.result.0 c.args.times.now c.args.arrows.now c.args.order.now c.args.m c.args.first.now c.args.next.now c.args.rank.now c.loop-c.t c.loop-c.c c.loop-c.left c.loop-c.ready c.loop-c.groups c.loop-c.until c.loop-c.who c.loop-c.processors c.loop-c.starts c.loop-c.due.0 c.loop-c.free.0 c.loop-c.low =
-      record {
+    record {
       job = c.requires.job;
       now = c.loop-c.invariant;
       none = c.if-c-ne0.false;
@@ -266,10 +245,10 @@ shape_of-starts-then-t c =
 
 pub returns-then-t : goal.returns-then-t
 returns-then-t c =
-    let its-end : get_or c.loop-c.until c.usize_from_u8-in-loop-c.result 0 ≡ get_or c.loop-c.until c.first_to_end-due.result.0 0 =
-      ap (λ (p : ℕ). get_or c.loop-c.until p 0) c.usize_from_u8-in-loop-c.ensures.0 in
+    let its_end : get_or c.loop-c.until c.usize_from_u8-in-loop-c.result 0 ≡ get_or c.loop-c.until c.first_to_end-due.result.0 0 =
+    ap (λ (p : ℕ). get_or c.loop-c.until p 0) c.usize_from_u8-in-loop-c.ensures.0 in
     let seeks : Seeks c.next_to_go-x.result c.first_free-free.result.0 c.args.times.now c.args.arrows.now c.args.order.now c.args.m c.args.first.now c.args.next.now c.args.rank.now c.loop-c.t c.loop-c.c c.loop-c.left c.loop-c.ready c.loop-c.groups c.loop-c.until c.loop-c.who c.loop-c.processors c.loop-c.starts c.loop-c.due.0 c.loop-c.free.0 c.loop-c.low =
-      record {
+    record {
       job = c.requires.job;
       now = c.loop-c.invariant;
       none = c.if-c-ne0.false;
@@ -279,26 +258,26 @@ returns-then-t c =
       first_free = c.first_free-free.ensures.1;
     } in
     let at = seeks in
-    record { list_plan = finished at c.if-x-order.false c.first_to_end-due.ensures its-end c.if-t.true; sizes = at.now.making.sizes; }
+    record { list_plan = finished at c.if-x-order.false c.first_to_end-due.ensures its_end c.if-t.true; sizes = at.now.making.sizes }
 
-counts-off : goal.loop-c-preserved-then-c-ne0 × goal.loop-c-smaller-then-c-ne0
-counts-off = both (λ c.
+counts_off : goal.loop-c-preserved-then-c-ne0 × goal.loop-c-smaller-then-c-ne0
+counts_off = both (λ c.
     -- an arrow is to be counted off
     let counts : Counts c.args.times.now c.args.arrows.now c.args.order.now c.args.m c.args.first.now c.args.next.now c.args.rank.now c.loop-c.t c.loop-c.c c.loop-c.left c.loop-c.ready c.loop-c.groups c.loop-c.until c.loop-c.who c.loop-c.processors c.loop-c.starts c.loop-c.due.0 c.loop-c.free.0 c.loop-c.low =
-      record { job = c.requires.job; now = c.loop-c.invariant; some = c.if-c-ne0.true } in
+    record { job = c.requires.job; now = c.loop-c.invariant; some = c.if-c-ne0.true } in
     step_counted counts c.usize_from_u16-c.ensures.0 c.count_off-low.ensures)
 
 pub loop-c-smaller-then-c-ne0 : goal.loop-c-smaller-then-c-ne0
-loop-c-smaller-then-c-ne0 = counts-off.1
+loop-c-smaller-then-c-ne0 = counts_off.1
 
 pub loop-c-preserved-then-c-ne0 : goal.loop-c-preserved-then-c-ne0
-loop-c-preserved-then-c-ne0 = counts-off.0
+loop-c-preserved-then-c-ne0 = counts_off.0
 
-ends-one : goal.loop-c-preserved-then-usize_from_u8-m × goal.loop-c-smaller-then-usize_from_u8-m
-ends-one = both (λ c.
+ends_one : goal.loop-c-preserved-then-usize_from_u8-m × goal.loop-c-smaller-then-usize_from_u8-m
+ends_one = both (λ c.
     -- a subtask ends
     let ends : Ends c.args.times.now c.args.arrows.now c.args.order.now c.args.m c.args.first.now c.args.next.now c.args.rank.now c.loop-c.t c.loop-c.c c.loop-c.left c.loop-c.ready c.loop-c.groups c.loop-c.until c.loop-c.who c.loop-c.processors c.loop-c.starts c.loop-c.due.0 c.loop-c.free.0 c.loop-c.low =
-      record {
+    record {
       job = c.requires.job;
       now = c.loop-c.invariant;
       none = c.if-c-ne0.false;
@@ -307,15 +286,15 @@ ends-one = both (λ c.
     step_ended ends c.end_on-c.ensures.value c.end_on-c.ensures.until_after c.first_due-due.ensures)
 
 pub loop-c-smaller-then-usize_from_u8-m : goal.loop-c-smaller-then-usize_from_u8-m
-loop-c-smaller-then-usize_from_u8-m = ends-one.1
+loop-c-smaller-then-usize_from_u8-m = ends_one.1
 
 pub loop-c-preserved-then-usize_from_u8-m : goal.loop-c-preserved-then-usize_from_u8-m
-loop-c-preserved-then-usize_from_u8-m = ends-one.0
+loop-c-preserved-then-usize_from_u8-m = ends_one.0
 
-starts-one : goal.loop-c-preserved-then-x-order × goal.loop-c-smaller-then-x-order
-starts-one = both (λ c.
+starts_one : goal.loop-c-preserved-then-x-order × goal.loop-c-smaller-then-x-order
+starts_one = both (λ c.
     let seeks : Seeks c.next_to_go-x.result c.first_free-free.result.0 c.args.times.now c.args.arrows.now c.args.order.now c.args.m c.args.first.now c.args.next.now c.args.rank.now c.loop-c.t c.loop-c.c c.loop-c.left c.loop-c.ready c.loop-c.groups c.loop-c.until c.loop-c.who c.loop-c.processors c.loop-c.starts c.loop-c.due.0 c.loop-c.free.0 c.loop-c.low =
-      record {
+    record {
       job = c.requires.job;
       now = c.loop-c.invariant;
       none = c.if-c-ne0.false;
@@ -324,20 +303,21 @@ starts-one = both (λ c.
       to_go = c.next_to_go-x.ensures;
       first_free = c.first_free-free.ensures.1;
     } in
-    step_started seeks c.if-x-order.true c.subtask_at-subtask.ensures.0 c.unmark.ensures c.start_on.ensures)
+    step_started seeks c.if-x-order.true c.subtask_at-subtask.ensures.0 c.unmark.ensures
+    (c.start_on.ensures.processors_after, (c.start_on.ensures.starts_after, (c.start_on.ensures.until_after, c.start_on.ensures.who_after))))
 
 pub loop-c-smaller-then-x-order : goal.loop-c-smaller-then-x-order
-loop-c-smaller-then-x-order = starts-one.1
+loop-c-smaller-then-x-order = starts_one.1
 
 pub loop-c-preserved-then-x-order : goal.loop-c-preserved-then-x-order
-loop-c-preserved-then-x-order = starts-one.0
+loop-c-preserved-then-x-order = starts_one.0
 
 moves : goal.loop-c-preserved × goal.loop-c-smaller
 moves = both (λ c.
-    let its-end : get_or c.loop-c.until c.usize_from_u8-in-loop-c.result 0 ≡ get_or c.loop-c.until c.first_to_end-due.result.0 0 =
-      ap (λ (p : ℕ). get_or c.loop-c.until p 0) c.usize_from_u8-in-loop-c.ensures.0 in
+    let its_end : get_or c.loop-c.until c.usize_from_u8-in-loop-c.result 0 ≡ get_or c.loop-c.until c.first_to_end-due.result.0 0 =
+    ap (λ (p : ℕ). get_or c.loop-c.until p 0) c.usize_from_u8-in-loop-c.ensures.0 in
     let seeks : Seeks c.next_to_go-x.result c.first_free-free.result.0 c.args.times.now c.args.arrows.now c.args.order.now c.args.m c.args.first.now c.args.next.now c.args.rank.now c.loop-c.t c.loop-c.c c.loop-c.left c.loop-c.ready c.loop-c.groups c.loop-c.until c.loop-c.who c.loop-c.processors c.loop-c.starts c.loop-c.due.0 c.loop-c.free.0 c.loop-c.low =
-      record {
+    record {
       job = c.requires.job;
       now = c.loop-c.invariant;
       none = c.if-c-ne0.false;
@@ -346,7 +326,7 @@ moves = both (λ c.
       to_go = c.next_to_go-x.ensures;
       first_free = c.first_free-free.ensures.1;
     } in
-    step_moved seeks c.if-x-order.false c.first_to_end-due.ensures its-end c.if-t.false)
+    step_moved seeks c.if-x-order.false c.first_to_end-due.ensures its_end c.if-t.false)
 
 pub loop-c-smaller : goal.loop-c-smaller
 loop-c-smaller = moves.1

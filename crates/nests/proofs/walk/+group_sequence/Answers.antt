@@ -14,9 +14,9 @@ use Rattle.nests.proofs.walk.+group_sequence.Goals.{sequence-Joined-graph-gt0, s
 -- ---- a sequence
 
 -- the member that comes next
-sequence-member : (t : ℕ) (c : sequence-Joined-graph-gt0 t)
+sequence_member : (t : ℕ) (c : sequence-Joined-graph-gt0 t)
     → MemberAt end_to_end (c.args.depth - 1) c.args.row.now c.loop-left.next c.if-graph-gt0.member
-sequence-member t c =
+sequence_member t c =
     let graph = c.graph_at-graph.ensures in
     elim c.if-graph-gt0.branch [
       | sequence-then-graph-gt0 w ↦ rw w.member-is (member_graph _ _ _ _ graph (omega (arith, w.if-graph-gt0.true)))
@@ -24,9 +24,9 @@ sequence-member t c =
     ]
 
 -- C and P with it stay within 32 bits
-sequence-small : (t : ℕ) (c : sequence-Joined-graph-gt0 t) → ¬ (c.if-graph-gt0.member.next ≡ 0)
+sequence_small : (t : ℕ) (c : sequence-Joined-graph-gt0 t) → ¬ (c.if-graph-gt0.member.next ≡ 0)
     → (c.loop-left.c + c.if-graph-gt0.member.c < 4294967296) × (together end_to_end c.loop-left.p c.if-graph-gt0.member.p < 4294967296)
-sequence-small t c found = passes_small c.loop-left.invariant c.loop-left-test.true (sequence-member t c) found c.requires
+sequence_small t c found = passes_small c.loop-left.invariant c.loop-left-test.true (sequence_member t c) found c.requires
 
 pub sequence-returns-then-left-eq0 : goal.sequence-returns-then-left-eq0
 sequence-returns-then-left-eq0 t c = no_opener _ _ _ _ c.members_at-left.ensures c.if-left-eq0.true c.broken.ensures
@@ -40,19 +40,19 @@ sequence-loop-left-init t c = passes_begin
 pub sequence-returns-then-member-eq0 : goal.sequence-returns-then-member-eq0
 sequence-returns-then-member-eq0 t c =
     broken_inside _ _ _ _ c.members_at-left.ensures c.if-left-eq0.false c.loop-left.invariant c.loop-left-test.true
-    (sequence-member t (goal.at.sequence-returns-then-member-eq0 t c).Joined-graph-gt0) c.if-member-eq0.true c.broken-then-member-eq0.ensures
+    (sequence_member t (goal.at.sequence-returns-then-member-eq0 t c).Joined-graph-gt0) c.if-member-eq0.true c.broken-then-member-eq0.ensures
 
 pub sequence-overflow_add-c : goal.sequence-overflow_add-c
 sequence-overflow_add-c t c =
-    omega (arith, (sequence-small t (goal.at.sequence-overflow_add-c t c).Joined-graph-gt0 c.if-member-eq0.false).0)
+    omega (arith, (sequence_small t (goal.at.sequence-overflow_add-c t c).Joined-graph-gt0 c.if-member-eq0.false).0)
 
 pub sequence-overflow_add-p : goal.sequence-overflow_add-p
 sequence-overflow_add-p t c =
-    omega (arith, (sequence-small t (goal.at.sequence-overflow_add-p t c).Joined-graph-gt0 c.if-member-eq0.false).1)
+    omega (arith, (sequence_small t (goal.at.sequence-overflow_add-p t c).Joined-graph-gt0 c.if-member-eq0.false).1)
 
 pub sequence-loop-left-preserved : goal.sequence-loop-left-preserved
 sequence-loop-left-preserved t c =
-    passes_more c.loop-left.invariant c.loop-left-test.true (sequence-member t (goal.at.sequence-loop-left-preserved t c).Joined-graph-gt0) c.if-member-eq0.false
+    passes_more c.loop-left.invariant c.loop-left-test.true (sequence_member t (goal.at.sequence-loop-left-preserved t c).Joined-graph-gt0) c.if-member-eq0.false
 
 pub sequence-returns : goal.sequence-returns
 sequence-returns t c =
@@ -61,9 +61,9 @@ sequence-returns t c =
 -- ---- a group
 
 -- the member that comes next
-group-member : (t : ℕ) (c : group-Joined-graph-gt0 t)
+group_member : (t : ℕ) (c : group-Joined-graph-gt0 t)
     → MemberAt side_by_side (c.args.depth - 1) c.args.row.now c.loop-left.next c.if-graph-gt0.member
-group-member t c =
+group_member t c =
     let graph = c.graph_at-graph.ensures in
     elim c.if-graph-gt0.branch [
       | group-then-graph-gt0 w ↦ rw w.member-is (member_graph _ _ _ _ graph (omega (arith, w.if-graph-gt0.true)))
@@ -71,9 +71,9 @@ group-member t c =
     ]
 
 -- C and P with it stay within 32 bits
-group-small : (t : ℕ) (c : group-Joined-graph-gt0 t) → ¬ (c.if-graph-gt0.member.next ≡ 0)
+group_small : (t : ℕ) (c : group-Joined-graph-gt0 t) → ¬ (c.if-graph-gt0.member.next ≡ 0)
     → (c.loop-left.c + c.if-graph-gt0.member.c < 4294967296) × (together side_by_side c.loop-left.p c.if-graph-gt0.member.p < 4294967296)
-group-small t c found = passes_small c.loop-left.invariant c.loop-left-test.true (group-member t c) found c.requires
+group_small t c found = passes_small c.loop-left.invariant c.loop-left-test.true (group_member t c) found c.requires
 
 pub group-returns-then-left-eq0 : goal.group-returns-then-left-eq0
 group-returns-then-left-eq0 t c = no_opener _ _ _ _ c.members_at-left.ensures c.if-left-eq0.true c.broken.ensures
@@ -87,15 +87,15 @@ group-loop-left-init t c = passes_begin
 pub group-returns-then-member-eq0 : goal.group-returns-then-member-eq0
 group-returns-then-member-eq0 t c =
     broken_inside _ _ _ _ c.members_at-left.ensures c.if-left-eq0.false c.loop-left.invariant c.loop-left-test.true
-    (group-member t (goal.at.group-returns-then-member-eq0 t c).Joined-graph-gt0) c.if-member-eq0.true c.broken-then-member-eq0.ensures
+    (group_member t (goal.at.group-returns-then-member-eq0 t c).Joined-graph-gt0) c.if-member-eq0.true c.broken-then-member-eq0.ensures
 
 pub group-overflow_add-c : goal.group-overflow_add-c
 group-overflow_add-c t c =
-    omega (arith, (group-small t (goal.at.group-overflow_add-c t c).Joined-graph-gt0 c.if-member-eq0.false).0)
+    omega (arith, (group_small t (goal.at.group-overflow_add-c t c).Joined-graph-gt0 c.if-member-eq0.false).0)
 
 pub group-loop-left-preserved : goal.group-loop-left-preserved
 group-loop-left-preserved t c =
-    rw c.beside-p.ensures (passes_more c.loop-left.invariant c.loop-left-test.true (group-member t (goal.at.group-loop-left-preserved t c).Joined-graph-gt0) c.if-member-eq0.false)
+    rw c.beside-p.ensures (passes_more c.loop-left.invariant c.loop-left-test.true (group_member t (goal.at.group-loop-left-preserved t c).Joined-graph-gt0) c.if-member-eq0.false)
 
 pub group-returns : goal.group-returns
 group-returns t c =

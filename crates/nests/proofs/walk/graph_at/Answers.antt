@@ -21,10 +21,10 @@ returns-then-entry-gt16776960 c = no_graph_here _ _ (omega arith) (λ g. omega (
 pub returns : goal.returns
 returns c =
     let few = c.if-entry-gt16776960.false in
-    let up-to-C = c.if-entry.false in
+    let up_to_C = c.if-entry.false in
     let some = c.if-entry-eq0.false in
     let kind = c.if-entry-ne0.false in
     graph_here _ _ (omega arith) (record {
       kind_is = kind;
-      in_range = record { path = record { low = omega (arith, some); high = up-to-C }; work = few };
+      in_range = record { path = record { low = omega (arith, some); high = up_to_C }; work = few };
     })

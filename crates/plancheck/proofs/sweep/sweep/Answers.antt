@@ -24,9 +24,9 @@ returns-then-times-j c = tt
 pub start_of-s-requires : goal.start_of-s-requires
 start_of-s-requires c =
     -- the subtask at hand is one, and stands on a processor of 1..m
-    let at-hand : IsSubtask c.args.times.now c.subtask_in-subtask.result.0 =
+    let at_hand : IsSubtask c.args.times.now c.subtask_in-subtask.result.0 =
     record { low = omega (arith, c.subtask_in-subtask.ensures); high = omega (arith, c.if-times-j.false) } in
-    record { low = at-hand.low; high = omega (arith, c.requires.0.timed.long, at-hand.high) }
+    record { low = at_hand.low; high = omega (arith, c.requires.0.timed.long, at_hand.high) }
 
 pub returns-then-s-before : goal.returns-then-s-before
 returns-then-s-before c = tt
@@ -34,33 +34,30 @@ returns-then-s-before c = tt
 pub processor_of-processor-requires : goal.processor_of-processor-requires
 processor_of-processor-requires c =
     -- the subtask at hand is one, and stands on a processor of 1..m
-    let at-hand : IsSubtask c.args.times.now c.subtask_in-subtask.result.0 =
+    let at_hand : IsSubtask c.args.times.now c.subtask_in-subtask.result.0 =
     record { low = omega (arith, c.subtask_in-subtask.ensures); high = omega (arith, c.if-times-j.false) } in
-    let c-at-hand = at-hand in
-    record { low = c-at-hand.low; high = omega (arith, c.requires.0.long_procs, c-at-hand.high) }
+    record { low = at_hand.low; high = omega (arith, c.requires.0.long_procs, at_hand.high) }
 
 pub offset_bounds-until-p : goal.offset_bounds-until-p
 offset_bounds-until-p c =
     -- the subtask at hand is one, and stands on a processor of 1..m
-    let at-hand : IsSubtask c.args.times.now c.subtask_in-subtask.result.0 =
+    let at_hand : IsSubtask c.args.times.now c.subtask_in-subtask.result.0 =
     record { low = omega (arith, c.subtask_in-subtask.ensures); high = omega (arith, c.if-times-j.false) } in
     let on : c.usize_from_u8-p.result ≡ item_of c.args.procs.now c.subtask_in-subtask.result.0 =
     c.usize_from_u8-p.ensures.0 ∙ c.processor_of-processor.ensures in
     let room : c.usize_from_u8-p.result < 17 =
-    let c-at-hand = at-hand in
-    until_room c.requires.0 c-at-hand on in
+    until_room c.requires.0 at_hand on in
     omega (arith, room)
 
 pub bounds-until-p : goal.bounds-until-p
 bounds-until-p c =
     -- the subtask at hand is one, and stands on a processor of 1..m
-    let at-hand : IsSubtask c.args.times.now c.subtask_in-subtask.result.0 =
+    let at_hand : IsSubtask c.args.times.now c.subtask_in-subtask.result.0 =
     record { low = omega (arith, c.subtask_in-subtask.ensures); high = omega (arith, c.if-times-j.false) } in
     let on : c.usize_from_u8-p.result ≡ item_of c.args.procs.now c.subtask_in-subtask.result.0 =
     c.usize_from_u8-p.ensures.0 ∙ c.processor_of-processor.ensures in
     let room : c.usize_from_u8-p.result < 17 =
-    let c-at-hand = at-hand in
-    until_room c.requires.0 c-at-hand on in
+    until_room c.requires.0 at_hand on in
     room
 
 pub returns-then-s-until : goal.returns-then-s-until
@@ -84,33 +81,30 @@ returns-then-ready-j c = tt
 pub end_of-requires : goal.end_of-requires
 end_of-requires c =
     -- the subtask at hand is one, and stands on a processor of 1..m
-    let at-hand : IsSubtask c.args.times.now c.subtask_in-subtask.result.0 =
+    let at_hand : IsSubtask c.args.times.now c.subtask_in-subtask.result.0 =
     record { low = omega (arith, c.subtask_in-subtask.ensures); high = omega (arith, c.if-times-j.false) } in
-    let c-at-hand = at-hand in
-    (c-at-hand, c.requires.0.timed)
+    (at_hand, c.requires.0.timed)
 
 pub offset_bounds-until-p-in-loop-x : goal.offset_bounds-until-p-in-loop-x
 offset_bounds-until-p-in-loop-x c =
     -- the subtask at hand is one, and stands on a processor of 1..m
-    let at-hand : IsSubtask c.args.times.now c.subtask_in-subtask.result.0 =
+    let at_hand : IsSubtask c.args.times.now c.subtask_in-subtask.result.0 =
     record { low = omega (arith, c.subtask_in-subtask.ensures); high = omega (arith, c.if-times-j.false) } in
     let on : c.usize_from_u8-p.result ≡ item_of c.args.procs.now c.subtask_in-subtask.result.0 =
     c.usize_from_u8-p.ensures.0 ∙ c.processor_of-processor.ensures in
     let room : c.usize_from_u8-p.result < 17 =
-    let c-at-hand = at-hand in
-    until_room c.requires.0 c-at-hand on in
+    until_room c.requires.0 at_hand on in
     omega (arith, room)
 
 pub bounds-until-p-in-loop-x : goal.bounds-until-p-in-loop-x
 bounds-until-p-in-loop-x c =
     -- the subtask at hand is one, and stands on a processor of 1..m
-    let at-hand : IsSubtask c.args.times.now c.subtask_in-subtask.result.0 =
+    let at_hand : IsSubtask c.args.times.now c.subtask_in-subtask.result.0 =
     record { low = omega (arith, c.subtask_in-subtask.ensures); high = omega (arith, c.if-times-j.false) } in
     let on : c.usize_from_u8-p.result ≡ item_of c.args.procs.now c.subtask_in-subtask.result.0 =
     c.usize_from_u8-p.ensures.0 ∙ c.processor_of-processor.ensures in
     let room : c.usize_from_u8-p.result < 17 =
-    let c-at-hand = at-hand in
-    until_room c.requires.0 c-at-hand on in
+    until_room c.requires.0 at_hand on in
     room
 
 pub loop-x-preserved : goal.loop-x-preserved

@@ -1,4 +1,5 @@
 -- `following_line`: a comment, or a line without numbers. Assumes nothing.
+use borrow.Enum.Refused.{opened}
 use native.Mathlib.Omega.{arith}
 use Rattle.stg.proofs.NextNumbers.{seen, no_line_end}
 use Rattle.stg.proofs.Followers.{follower_comment, follower_some, follower_blank}
@@ -10,7 +11,7 @@ returns-then-text-at-eq35 c = follower_comment c.args.text.now _ (omega arith) _
 pub returns-in_default : goal.returns-in_default
 returns-in_default c =
     follower_some c.args.text.now _ (omega arith) c.if-text-at-eq35.false
-    (no_line_end c.args.text.now c.args.at _ (omega arith) c.next_number.ensures c.in_default.keys2)
+    (no_line_end c.args.text.now c.args.at _ (omega arith) c.next_number.ensures (opened c.in_default.in_default-own.keys2))
 
 pub returns : goal.returns
 returns c =

@@ -27,7 +27,7 @@ shape_of-arrows-in-Refused c = c.arrows-1.given ∙ c.loop-j.invariant.2
 
 pub returns-in-Refused : goal.returns-in-Refused
 returns-in-Refused c =
-    left_bad c.loop-j.invariant.0 _ (omega arith) (stepped _ _ _ _ _ _ _ _ _ _ c.in-Refused.is c.take_subtask.ensures)
+    left_bad c.loop-j.invariant.0 _ (omega arith) c.in-Refused.ensures
 
 pub overflow_add-j : goal.overflow_add-j
 overflow_add-j c = omega arith
@@ -37,7 +37,7 @@ loop-j-smaller c = omega arith
 
 pub loop-j-preserved : goal.loop-j-preserved
 loop-j-preserved c = (
-  left_more c.loop-j.invariant.0 (omega arith) (stepped _ _ _ _ _ _ _ _ _ _ c.in-Counted.is c.take_subtask.ensures),
+  left_more c.loop-j.invariant.0 (omega arith) c.in-Counted.ensures,
   c.times-1.given ∙
       c.loop-j.invariant.1,
   c.arrows-1.given ∙ c.loop-j.invariant.2,

@@ -1,30 +1,29 @@
 -- `task_line`: a line has the shape of a task's, or has not. Assumes nothing.
+use borrow.Enum.Refused.{opened}
 use native.Mathlib.Omega.{arith}
 use Rattle.text.proofs.Standing.{Passed}
 use Rattle.stg.proofs.NextNumbers.{seen, no_field}
-use Rattle.stg.proofs.OneLine.{Headed, headed, preceded, task_none, task_one, task_two, task_bad, task_other, task_miss, task_is}
+use Rattle.stg.proofs.OneLine.{Headed, headed, task_none, task_one, task_two, task_bad, task_other, task_miss, task_is}
 use Rattle.stg.proofs.tasks.task_line.Goals as goal
 
 pub returns-in_default : goal.returns-in_default
 returns-in_default c =
-    task_none c.args.text.now c.args.at _ (no_field c.args.text.now c.args.at _ c.requires.0 c.next_number.ensures c.in_default.keys2)
+    task_none c.args.text.now c.args.at _ (no_field c.args.text.now c.args.at _ c.requires.0 c.next_number.ensures (opened c.in_default.in_default-own.keys2))
 
 pub returns-then-index-i : goal.returns-then-index-i
 returns-then-index-i c =
     -- the line's first, second and third number
     let first : Passed c.args.text.now c.args.at c.in-Field.index c.in-Field.past_index =
     seen c.args.text.now c.args.at _ _ c.in-Field.is c.requires.0 c.next_number.ensures in
-    let c-first = first in
-    task_other c.args.text.now c.args.at _ c-first c.if-index-i.true
+    task_other c.args.text.now c.args.at _ first c.if-index-i.true
 
 pub returns-in_default-next_number : goal.returns-in_default-next_number
 returns-in_default-next_number c =
     -- the line's first, second and third number
     let first : Passed c.args.text.now c.args.at c.in-Field.index c.in-Field.past_index =
     seen c.args.text.now c.args.at _ _ c.in-Field.is c.requires.0 c.next_number.ensures in
-    let c-first = first in
-    task_one c.args.text.now c.args.at _ c-first
-    (no_field c.args.text.now _ _ c-first.inside c.next_number-2.ensures c.in_default-next_number.keys2)
+    task_one c.args.text.now c.args.at _ first
+    (no_field c.args.text.now _ _ first.inside c.next_number-2.ensures (opened c.in_default-next_number.in_default-next_number-own.keys2))
 
 pub returns-in_default-next_number-2 : goal.returns-in_default-next_number-2
 returns-in_default-next_number-2 c =
@@ -32,12 +31,10 @@ returns-in_default-next_number-2 c =
     let first : Passed c.args.text.now c.args.at c.in-Field.index c.in-Field.past_index =
     seen c.args.text.now c.args.at _ _ c.in-Field.is c.requires.0 c.next_number.ensures in
     let second : Passed c.args.text.now c.in-Field.past_index c.in-Field-next_number.t c.in-Field-next_number.past_time =
-    let c-first = first in
-    seen c.args.text.now _ _ _ c.in-Field-next_number.is c-first.inside c.next_number-2.ensures in
-    let c-first = first in
-    let c-second = second in
-    task_two c.args.text.now c.args.at _ c-first c-second
-    (no_field c.args.text.now _ _ c-second.inside c.next_number-3.ensures c.in_default-next_number-2.keys2)
+    seen c.args.text.now _ _ _ c.in-Field-next_number.is first.inside c.next_number-2.ensures in
+    let first = first in
+    task_two c.args.text.now c.args.at _ first second
+    (no_field c.args.text.now _ _ second.inside c.next_number-3.ensures (opened c.in_default-next_number-2.in_default-next_number-2-own.keys2))
 
 pub take_predecessors-requires : goal.take_predecessors-requires
 take_predecessors-requires c =
@@ -45,8 +42,7 @@ take_predecessors-requires c =
     let first : Passed c.args.text.now c.args.at c.in-Field.index c.in-Field.past_index =
     seen c.args.text.now c.args.at _ _ c.in-Field.is c.requires.0 c.next_number.ensures in
     let second : Passed c.args.text.now c.in-Field.past_index c.in-Field-next_number.t c.in-Field-next_number.past_time =
-    let c-first = first in
-    seen c.args.text.now _ _ _ c.in-Field-next_number.is c-first.inside c.next_number-2.ensures in
+    seen c.args.text.now _ _ _ c.in-Field-next_number.is first.inside c.next_number-2.ensures in
     let third : Headed c.args.text.now c.args.at c.in-Field.index c.in-Field-next_number.t c.in-Field-next_number-2.count c.in-Field-next_number-2.past_count =
     let q = second in
     headed first q
@@ -60,15 +56,13 @@ returns-in_default-take_predecessors c =
     let first : Passed c.args.text.now c.args.at c.in-Field.index c.in-Field.past_index =
     seen c.args.text.now c.args.at _ _ c.in-Field.is c.requires.0 c.next_number.ensures in
     let second : Passed c.args.text.now c.in-Field.past_index c.in-Field-next_number.t c.in-Field-next_number.past_time =
-    let c-first = first in
-    seen c.args.text.now _ _ _ c.in-Field-next_number.is c-first.inside c.next_number-2.ensures in
+    seen c.args.text.now _ _ _ c.in-Field-next_number.is first.inside c.next_number-2.ensures in
     let third : Headed c.args.text.now c.args.at c.in-Field.index c.in-Field-next_number.t c.in-Field-next_number-2.count c.in-Field-next_number-2.past_count =
     let q = second in
     headed first q
     (seen c.args.text.now _ _ _
     c.in-Field-next_number-2.is q.inside c.next_number-3.ensures) in
-    let c-third = third in
-    task_bad c.args.text.now c.args.at _ c-third (preceded _ _ _ _ _ _ _ _ c.in_default-take_predecessors.is c.take_predecessors.ensures)
+    task_bad c.args.text.now c.args.at _ third c.in_default-take_predecessors.ensures
 
 pub returns-then-count-rest : goal.returns-then-count-rest
 returns-then-count-rest c =
@@ -76,15 +70,13 @@ returns-then-count-rest c =
     let first : Passed c.args.text.now c.args.at c.in-Field.index c.in-Field.past_index =
     seen c.args.text.now c.args.at _ _ c.in-Field.is c.requires.0 c.next_number.ensures in
     let second : Passed c.args.text.now c.in-Field.past_index c.in-Field-next_number.t c.in-Field-next_number.past_time =
-    let c-first = first in
-    seen c.args.text.now _ _ _ c.in-Field-next_number.is c-first.inside c.next_number-2.ensures in
+    seen c.args.text.now _ _ _ c.in-Field-next_number.is first.inside c.next_number-2.ensures in
     let third : Headed c.args.text.now c.args.at c.in-Field.index c.in-Field-next_number.t c.in-Field-next_number-2.count c.in-Field-next_number-2.past_count =
     let q = second in
     headed first q
     (seen c.args.text.now _ _ _
     c.in-Field-next_number-2.is q.inside c.next_number-3.ensures) in
-    let c-third = third in
-    task_miss c.args.text.now c.args.at _ c-third (preceded _ _ _ _ _ _ _ _ c.in-Are.is c.take_predecessors.ensures) c.if-count-rest.true
+    task_miss c.args.text.now c.args.at _ third c.in-Are.ensures c.if-count-rest.true
 
 pub returns : goal.returns
 returns c =
@@ -92,13 +84,11 @@ returns c =
     let first : Passed c.args.text.now c.args.at c.in-Field.index c.in-Field.past_index =
     seen c.args.text.now c.args.at _ _ c.in-Field.is c.requires.0 c.next_number.ensures in
     let second : Passed c.args.text.now c.in-Field.past_index c.in-Field-next_number.t c.in-Field-next_number.past_time =
-    let c-first = first in
-    seen c.args.text.now _ _ _ c.in-Field-next_number.is c-first.inside c.next_number-2.ensures in
+    seen c.args.text.now _ _ _ c.in-Field-next_number.is first.inside c.next_number-2.ensures in
     let third : Headed c.args.text.now c.args.at c.in-Field.index c.in-Field-next_number.t c.in-Field-next_number-2.count c.in-Field-next_number-2.past_count =
     let q = second in
     headed first q
     (seen c.args.text.now _ _ _
     c.in-Field-next_number-2.is q.inside c.next_number-3.ensures) in
-    let c-third = third in
-    task_is c.args.text.now c.args.at _ c-third (preceded _ _ _ _ _ _ _ _ c.in-Are.is c.take_predecessors.ensures) c.if-index-i.false
+    task_is c.args.text.now c.args.at _ third c.in-Are.ensures c.if-index-i.false
     c.if-count-rest.false
