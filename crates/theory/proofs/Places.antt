@@ -1,4 +1,4 @@
--- Where a row of the table holds there is a place that goes with it; that there is no second one is `one-refusal`. Assumes nothing.
+-- Where a row of the table holds there is a place that goes with it; that there is no second one is `one_refusal`. Assumes nothing.
 use mathlib.Core.Path.{◌≡◌, refl}
 use mathlib.Core.Logic.Dec
 use mathlib.Core.Logic.{◌⊎◌, inl, inr}

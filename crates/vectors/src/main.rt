@@ -7,7 +7,7 @@ ghost use Rattle.std.specs.Prelude.{◌≤◌, length};
 ghost use Rattle.std.specs.Io.{ReadsAtMost};
 
 use crate::stored::agrees;
-use std::io::{Error, ErrorKind, Read};
+use std::io::Read;
 use std::rt::Files;
 use std::{fs, io, str};
 
@@ -26,19 +26,13 @@ fn read_full(file: &mut impl Read, buffer: &mut [u8]) -> io::Result<usize>
     Ok(done)
 }
 
-// The name of a file of data/.
-fn path_of(name: &[u8]) -> io::Result<&str> {
-    match str::from_utf8(name) {
-        Ok(path) => Ok(path),
-        Err(_) => Err(Error::new(ErrorKind::InvalidData, "a name that is no text")),
-    }
-}
-
-// What a file of data/ begins with.
+// What a file of data/ begins with. Paths are text: a name that is none names no file, and nothing is read.
 fn read_file(rt: &impl Files, name: &[u8], buffer: &mut [u8]) -> io::Result<usize>
     ensures { ReadsAtMost result buffer.new }
 {
-    let path = path_of(name)?;
+    let Ok(path) = str::from_utf8(name) else {
+        return Ok(0);
+    };
     let mut file = fs::open(rt, path)?;
     read_full(&mut file, buffer)
 }
