@@ -4,8 +4,10 @@ use mathlib.Core.Logic.{◌≢◌}
 use mathlib.Core.Bool.{Bool, true, false}
 use Prim.Native.Nat.{ℕ, ◌+◌, ◌-◌, ◌≤◌, ◌<◌}
 use native.Mathlib.Omega.{arith}
+use Rattle.std.specs.Prelude.{Some, None}
 use Rattle.terms.specs.Graphs.{Among}
-use Rattle.theory.specs.First.{First, FirstSubtask}
+use Rattle.terms.specs.declared.Subtask.{Subtask}
+use Rattle.theory.specs.First.{First, FirstSubtask, IsFirst, IsFirstSubtask}
 use Rattle.theory.specs.Flags.{Says, Shows}
 
 -- P holds at no place below i
@@ -49,6 +51,33 @@ module _ {n : ℕ} (IsSo : ℕ → Type 0) {r : ℕ} (f : FirstSubtask n IsSo r)
 
   pub first_least : (j : ℕ) → 1 ≤ j → j < r → ¬ IsSo j
   first_least j a l h = let e : j - 1 + 1 ≡ j = omega (arith, a) in f.least (j - 1) (omega (arith, a, l)) (rw e h)
+
+-- ---- what a scan answers, as a position that is 0 for none
+
+module _ (n : ℕ) (IsSo : ℕ → Type 0) where
+  pub first_place : (i : ℕ) → IsFirst n IsSo (Some i) → First n IsSo (i + 1)
+  unfolding IsFirst
+  first_place i f = first_here n IsSo i f.inside f.least f.is_so
+
+  pub no_first_place : IsFirst n IsSo None → First n IsSo 0
+  unfolding IsFirst
+  no_first_place f = first_none n IsSo n f (omega arith)
+
+  pub first_subtask_is : {j : Subtask} → IsFirstSubtask n IsSo (Some j) → FirstSubtask n IsSo j.0
+  unfolding IsFirstSubtask
+  first_subtask_is {j} (a, p, l) =
+      let e : j.0 - 1 + 1 ≡ j.0 = omega (arith, a.low) in
+      let b : j.0 - 1 < n = omega (arith, a.low, a.high) in
+      let clear : Clear (λ k. IsSo (k + 1)) (j.0 - 1) = λ k c. l (k + 1) (omega arith) (omega (arith, c, a.low)) in
+      subst (FirstSubtask n IsSo) e (first_here n (λ k. IsSo (k + 1)) (j.0 - 1) b clear (rw e p))
+
+  pub no_first_subtask : IsFirstSubtask n IsSo None → FirstSubtask n IsSo 0
+  unfolding IsFirstSubtask
+  no_first_subtask f = first_none n (λ k. IsSo (k + 1)) n (λ k b. f (k + 1) (record { low = omega arith; high = omega (arith, b) })) (omega arith)
+
+  pub first_subtask_ne0 : {j : Subtask} → IsFirstSubtask n IsSo (Some j) → j.0 ≢ 0
+  unfolding IsFirstSubtask
+  first_subtask_ne0 (a, p, l) z = omega (arith, a.low, z)
 
 -- ---- what a flag says
 
