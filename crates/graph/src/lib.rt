@@ -7,30 +7,42 @@ mod order;
 mod scan;
 mod weigh;
 
-ghost use Rattle.std.specs.Prelude.{◌≡◌, [], ◌∷◌, ◌≤◌, length, replicate};
+ghost use Rattle.std.specs.Prelude.{◌≡◌, [], ◌∷◌, ◌+◌, ◌≤◌, ◌<◌, false, length, replicate};
 ghost use Rattle.terms.specs.Rows.{Accepted};
 ghost use Rattle.terms.specs.Refusals.{first_arrow, NamesOutside, subtask_rows, size_rows, arrow_rows, graph_rows, named_rows, on_rows};
 ghost use Rattle.terms.specs.Replies.{IsCheck, IsMeasure, IsTotalWork, IsLongestPath};
 ghost use Rattle.graph.specs.Finds.{Finds, WrongEnds};
+ghost use Rattle.graph.specs.Scans.{AllJoin};
 
 use crate::chains::chain;
 use crate::cycle::lowest_on_cycle;
 use crate::order::order_subtasks;
-use crate::scan::{faults, first_loop, first_outside, first_repeat};
+use crate::scan::{all_join_two, first_loop, first_outside, first_repeat};
 use crate::weigh::{longest, total};
 use limits::{check_processors, check_size, check_subtasks};
 use terms::{Amount, Check, Measure, Refusal, Weights, refuse_at};
 
+// The position, counted from 1, of the arrow at a place.
+fn position_of(place: usize) -> u32
+    requires { place < 2048 }
+    ensures { result ≡ place + 1 }
+{
+    place as u32 + 1
+}
+
 // 4 at the first arrow that names a subtask outside 1..n, else 5 at the first that goes from a subtask to itself.
 fn refuse_ends(n: usize, arrows: &[[u16; 2]]) -> Refusal
-    requires { length arrows.now ≤ 2048 }
+    requires few { (n ≤ 256) × (length arrows.now ≤ 2048) }
+    requires wrong { AllJoin n arrows.now (length arrows.now) false }
     ensures { WrongEnds n arrows.now result }
 {
-    let outside = first_outside(n, arrows);
-    if outside != 0 {
-        return refuse_at(4, outside as u32);
+    if let Some(outside) = first_outside(n, arrows) {
+        return refuse_at(4, position_of(outside));
     }
-    refuse_at(5, first_loop(arrows) as u32)
+    let Some(at) = first_loop(arrows) else {
+        unreachable!()
+    };
+    refuse_at(5, position_of(at))
 }
 
 // 4 to 7. Where none holds, the arrows are left as chains and the subtasks in an order, predecessors first.
@@ -47,20 +59,20 @@ fn check_arrows(
         times.now arrows.now first.new next.new order.new result }
 {
     let n = times.len();
-    if faults(n, arrows) != 0 {
+    if !all_join_two(n, arrows) {
         return Check::Refused(refuse_ends(n, arrows));
     }
     chain(n, arrows, first, next);
-    let repeat = first_repeat(n, arrows, first, next);
-    if repeat != 0 {
-        return Check::Refused(refuse_at(6, repeat as u32));
+    if let Some(repeat) = first_repeat(n, arrows, first, next) {
+        return Check::Refused(refuse_at(6, position_of(repeat)));
     }
-    let from = order_subtasks(n, arrows, first, next, order);
-    if from.0 == 0 {
-        return Check::Sound;
+    match order_subtasks(n, arrows, first, next, order) {
+        Ok(()) => Check::Sound,
+        Err(from) => match lowest_on_cycle(n, arrows, first, next, from) {
+            Some(lowest) => Check::Refused(refuse_at(7, lowest.0 as u32)),
+            None => unreachable!(),
+        },
     }
-    let lowest = lowest_on_cycle(n, arrows, first, next, from);
-    Check::Refused(refuse_at(7, lowest.0 as u32))
 }
 
 // 1 to 7. Where none holds, the arrows are left as chains and the subtasks in an order, predecessors first.
@@ -110,14 +122,13 @@ fn check_outside(times: &[u16], arrows: &[[u16; 2]]) -> Check
     ensures { IsCheck (first_arrow 4 arrows.now (NamesOutside times.now arrows.now) ∷ []) result }
 {
     let n = times.len();
-    if faults(n, arrows) == 0 {
+    if all_join_two(n, arrows) {
         return Check::Sound;
     }
-    let outside = first_outside(n, arrows);
-    if outside == 0 {
-        return Check::Sound;
+    match first_outside(n, arrows) {
+        Some(outside) => Check::Refused(refuse_at(4, position_of(outside))),
+        None => Check::Sound,
     }
-    Check::Refused(refuse_at(4, outside as u32))
 }
 
 // Whether the arrows name subtasks, whatever they join: 1 to 4.
