@@ -1,13 +1,15 @@
 -- From what the scans and the order say to the answer of the rows 4 to 7, and of 4 alone. Assumes nothing.
-use Rattle.std.proofs.Common.{◌≡◌, refl, ℕ, ◌+◌, ◌≤◌, ◌<◌, false, true, List, [], ◌∷◌, length, arith}
+use Rattle.std.proofs.Common.{refl, ℕ, ◌+◌, ◌≤◌, ◌<◌, false, true, List, [], ◌∷◌, length, arith}
 use Rattle.std.specs.Prelude.{◌≢◌, Some, None}
 use mathlib.Core.Logic.Dec
 use mathlib.Core.Logic.{by_cases}
 use native.Mathlib.Decide.{dec_le}
-use Rattle.terms.specs.Rows.{Smallest, Accepted, RefusedBy, refusal_at}
+use Rattle.terms.specs.Rows.{Smallest, Accepted, RefusedBy}
 use Rattle.terms.specs.Graphs.{Among, from_of, to_of, LeadsTo}
 use Rattle.terms.specs.Refusals.{first_arrow, NamesOutside, Repeats, count_rows, time_rows, subtask_rows, size_rows, arrow_rows}
 use Rattle.terms.specs.declared.Refusal.{Refusal}
+use Rattle.terms.specs.declared.Refusal.TheVariants.{ArrowOutside, ArrowTwice, Cycle}
+use Rattle.terms.proofs.Decisions.{told}
 use Rattle.terms.specs.declared.Subtask.{Subtask}
 use Rattle.terms.proofs.Decide.{dec_among, undenied}
 use Rattle.theory.specs.First.{IsFirst, IsFirstSubtask}
@@ -60,18 +62,18 @@ module _ (times : List ℕ) (arrows : List (List ℕ)) where
   -- ---- 4 and 5: some arrow has wrong ends
   pub refused_ends : {r : Refusal} → WrongEnds (length times) arrows r → RefusedBy (arrow_rows times arrows) r
   unfolding arrow_rows
-  refused_ends (names_outside i scan e) = stop_arrow (begin (arrow_rows times arrows)) (arrow_at (first_place _ _ i scan) (λ z. omega (arith, z))) e
-  refused_ends (none_outside i scan loops e) =
-      stop_arrow (past (begin (arrow_rows times arrows)) (no_arrow (no_first_place _ _ scan) refl)) (arrow_at (first_place _ _ i loops) (λ z. omega (arith, z))) e
+  refused_ends (names_outside i scan) = stop_arrow (begin (arrow_rows times arrows)) (arrow_at (first_place _ _ i scan) (λ z. omega (arith, z))) told
+  refused_ends (none_outside i scan loops) =
+      stop_arrow (past (begin (arrow_rows times arrows)) (no_arrow (no_first_place _ _ scan) refl)) (arrow_at (first_place _ _ i loops) (λ z. omega (arith, z))) told
 
   -- 4 alone
   pub no_outside : IsFirst (length arrows) (Outside (length times) arrows) None → Accepted (first_arrow 4 arrows (NamesOutside times arrows) ∷ [])
   unfolding Accepted
   no_outside scan = (no_arrow (no_first_place _ _ scan) refl, tt)
 
-  pub some_outside : (i : ℕ) → IsFirst (length arrows) (Outside (length times) arrows) (Some i) → {r : Refusal} → r ≡ refusal_at 4 (i + 1) 0
-      → RefusedBy (first_arrow 4 arrows (NamesOutside times arrows) ∷ []) r
-  some_outside i scan e = stop_arrow (begin _) (arrow_at (first_place _ _ i scan) (λ z. omega (arith, z))) e
+  pub some_outside : (i : ℕ) → IsFirst (length arrows) (Outside (length times) arrows) (Some i)
+      → RefusedBy (first_arrow 4 arrows (NamesOutside times arrows) ∷ []) (ArrowOutside (i + 1))
+  some_outside i scan = stop_arrow {a = ArrowOutside (i + 1)} (begin (first_arrow 4 arrows (NamesOutside times arrows) ∷ [])) (arrow_at (first_place _ _ i scan) (λ z. omega (arith, z))) told
 
   pub all_named : AllJoin (length times) arrows (length arrows) true → Accepted (first_arrow 4 arrows (NamesOutside times arrows) ∷ [])
   unfolding Accepted
@@ -96,9 +98,9 @@ module _ (times : List ℕ) (arrows : List (List ℕ)) where
         let r4 = past (begin (arrow_rows times arrows)) (λ s. s.is_so (j.tidy.from_in s.place s.inside, j.tidy.to_in s.place s.inside)) in
         past r4 (λ s. j.apart s.place s.inside s.is_so)
 
-    pub refused_6 : (i : ℕ) → IsFirst (length arrows) (Repeats arrows) (Some i) → {r : Refusal} → r ≡ refusal_at 6 (i + 1) 0 → RefusedBy (arrow_rows times arrows) r
+    pub refused_6 : (i : ℕ) → IsFirst (length arrows) (Repeats arrows) (Some i) → RefusedBy (arrow_rows times arrows) (ArrowTwice (i + 1))
     unfolding arrow_rows from
-    refused_6 i scan e = stop_arrow before_6 (arrow_at (first_place _ _ i scan) (λ z. omega (arith, z))) e
+    refused_6 i scan = stop_arrow before_6 (arrow_at (first_place _ _ i scan) (λ z. omega (arith, z))) told
 
     pub before_7 : IsFirst (length arrows) (Repeats arrows) None → Before 7 (arrow_rows times arrows)
     unfolding arrow_rows from
@@ -106,9 +108,9 @@ module _ (times : List ℕ) (arrows : List (List ℕ)) where
 
   module _ (once : Before 7 (arrow_rows times arrows)) where
     pub refused_7 : Tidy (length times) arrows → (x : Subtask) → IsFirstSubtask (length times) (λ j. LeadsTo arrows j j) (Some x)
-        → {r : Refusal} → r ≡ refusal_at 7 x.0 0 → RefusedBy (arrow_rows times arrows) r
+        → RefusedBy (arrow_rows times arrows) (Cycle x.0)
     unfolding arrow_rows from
-    refused_7 tidy x scan e = stop_lowest once (lowest_found tidy x scan) e
+    refused_7 tidy x scan = stop_lowest once (lowest_found tidy x scan) told
 
     pub accepted : {row : List ℕ} → Tidy (length times) arrows → Ordered (length times) arrows row → Accepted (arrow_rows times arrows)
     unfolding arrow_rows from

@@ -20,7 +20,7 @@ use crate::order::order_subtasks;
 use crate::scan::{all_join_two, first_loop, first_outside, first_repeat};
 use crate::weigh::{longest, total};
 use limits::{check_processors, check_size, check_subtasks};
-use terms::{Amount, Check, Measure, Refusal, Weights, refuse_at};
+use terms::{Refusal, Weights};
 
 // The position, counted from 1, of the arrow at a place.
 fn position_of(place: usize) -> u32
@@ -37,12 +37,12 @@ fn refuse_ends(n: usize, arrows: &[[u16; 2]]) -> Refusal
     ensures { WrongEnds n arrows.now result }
 {
     if let Some(outside) = first_outside(n, arrows) {
-        return refuse_at(4, position_of(outside));
+        return Refusal::ArrowOutside(position_of(outside));
     }
     let Some(at) = first_loop(arrows) else {
         unreachable!()
     };
-    refuse_at(5, position_of(at))
+    Refusal::ArrowToItself(position_of(at))
 }
 
 // 4 to 7. Where none holds, the arrows are left as chains and the subtasks in an order, predecessors first.
@@ -52,7 +52,7 @@ fn check_arrows(
     first: &mut [u32; 257],
     next: &mut [u16; 2048],
     order: &mut [u16; 256],
-) -> Check
+) -> Result<(), Refusal>
     requires accepted { Accepted (subtask_rows times.now) × Accepted (size_rows arrows.now) }
     requires first_value { (first.old ≡ replicate 257 0) × (length next.old ≡ 2048) × (length order.old ≡ 256) }
     ensures { Finds (arrow_rows times.now arrows.now)
@@ -60,16 +60,16 @@ fn check_arrows(
 {
     let n = times.len();
     if !all_join_two(n, arrows) {
-        return Check::Refused(refuse_ends(n, arrows));
+        return Err(refuse_ends(n, arrows));
     }
     chain(n, arrows, first, next);
     if let Some(repeat) = first_repeat(n, arrows, first, next) {
-        return Check::Refused(refuse_at(6, position_of(repeat)));
+        return Err(Refusal::ArrowTwice(position_of(repeat)));
     }
     match order_subtasks(n, arrows, first, next, order) {
-        Ok(()) => Check::Sound,
+        Ok(()) => Ok(()),
         Err(from) => match lowest_on_cycle(n, arrows, first, next, from) {
-            Some(lowest) => Check::Refused(refuse_at(7, lowest.0 as u32)),
+            Some(lowest) => Err(Refusal::Cycle(lowest.0 as u32)),
             None => unreachable!(),
         },
     }
@@ -82,22 +82,18 @@ fn check_and_order(
     first: &mut [u32; 257],
     next: &mut [u16; 2048],
     order: &mut [u16; 256],
-) -> Check
+) -> Result<(), Refusal>
     requires { (first.old ≡ replicate 257 0) × (length next.old ≡ 2048) × (length order.old ≡ 256) }
     ensures { Finds (graph_rows times.now arrows.now)
         times.now arrows.now first.new next.new order.new result }
 {
-    match check_subtasks(times) {
-        Check::Refused(refusal) => Check::Refused(refusal),
-        Check::Sound => match check_size(arrows) {
-            Check::Refused(refusal) => Check::Refused(refusal),
-            Check::Sound => check_arrows(times, arrows, first, next, order),
-        },
-    }
+    check_subtasks(times)?;
+    check_size(arrows)?;
+    check_arrows(times, arrows, first, next, order)
 }
 
 // Whether a graph is accepted.
-pub fn check(times: &[u16], arrows: &[[u16; 2]]) -> Check
+pub fn check(times: &[u16], arrows: &[[u16; 2]]) -> Result<(), Refusal>
     ensures { IsCheck (graph_rows times.now arrows.now) result }
 {
     let mut first = [0u32; 257];
@@ -107,88 +103,72 @@ pub fn check(times: &[u16], arrows: &[[u16; 2]]) -> Check
 }
 
 // Whether a graph on m processors is accepted.
-pub fn check_on(times: &[u16], arrows: &[[u16; 2]], m: u32) -> Check
+pub fn check_on(times: &[u16], arrows: &[[u16; 2]], m: u32) -> Result<(), Refusal>
     ensures { IsCheck (on_rows times.now arrows.now m) result }
 {
-    match check(times, arrows) {
-        Check::Refused(refusal) => Check::Refused(refusal),
-        Check::Sound => check_processors(m),
-    }
+    check(times, arrows)?;
+    check_processors(m)
 }
 
 // 4 alone.
-fn check_outside(times: &[u16], arrows: &[[u16; 2]]) -> Check
+fn check_outside(times: &[u16], arrows: &[[u16; 2]]) -> Result<(), Refusal>
     requires { Accepted (subtask_rows times.now) × Accepted (size_rows arrows.now) }
     ensures { IsCheck (first_arrow 4 arrows.now (NamesOutside times.now arrows.now) ∷ []) result }
 {
     let n = times.len();
     if all_join_two(n, arrows) {
-        return Check::Sound;
+        return Ok(());
     }
     match first_outside(n, arrows) {
-        Some(outside) => Check::Refused(refuse_at(4, position_of(outside))),
-        None => Check::Sound,
+        Some(outside) => Err(Refusal::ArrowOutside(position_of(outside))),
+        None => Ok(()),
     }
 }
 
 // Whether the arrows name subtasks, whatever they join: 1 to 4.
-pub fn check_named(times: &[u16], arrows: &[[u16; 2]]) -> Check
+pub fn check_named(times: &[u16], arrows: &[[u16; 2]]) -> Result<(), Refusal>
     ensures { IsCheck (named_rows times.now arrows.now) result }
 {
-    match check_subtasks(times) {
-        Check::Refused(refusal) => Check::Refused(refusal),
-        Check::Sound => match check_size(arrows) {
-            Check::Refused(refusal) => Check::Refused(refusal),
-            Check::Sound => check_outside(times, arrows),
-        },
-    }
+    check_subtasks(times)?;
+    check_size(arrows)?;
+    check_outside(times, arrows)
 }
 
 // C and P together.
-pub fn measure(times: &[u16], arrows: &[[u16; 2]]) -> Measure
+pub fn measure(times: &[u16], arrows: &[[u16; 2]]) -> Result<Weights, Refusal>
     ensures { IsMeasure (graph_rows times.now arrows.now) times.now arrows.now result }
 {
     let mut first = [0u32; 257];
     let mut next = [0u16; 2048];
     let mut order = [0u16; 256];
-    match check_and_order(times, arrows, &mut first, &mut next, &mut order) {
-        Check::Refused(refusal) => Measure::Refused(refusal),
-        Check::Sound => Measure::Is(Weights {
-            c: total(times),
-            p: longest(times, arrows, &first, &next, &order),
-        }),
-    }
+    check_and_order(times, arrows, &mut first, &mut next, &mut order)?;
+    Ok(Weights {
+        c: total(times),
+        p: longest(times, arrows, &first, &next, &order),
+    })
 }
 
 // C and P of a graph on m processors.
-pub fn measure_on(times: &[u16], arrows: &[[u16; 2]], m: u32) -> Measure
+pub fn measure_on(times: &[u16], arrows: &[[u16; 2]], m: u32) -> Result<Weights, Refusal>
     ensures { IsMeasure (on_rows times.now arrows.now m) times.now arrows.now result }
 {
-    match measure(times, arrows) {
-        Measure::Refused(refusal) => Measure::Refused(refusal),
-        Measure::Is(weights) => match check_processors(m) {
-            Check::Refused(refusal) => Measure::Refused(refusal),
-            Check::Sound => Measure::Is(weights),
-        },
-    }
+    let weights = measure(times, arrows)?;
+    check_processors(m)?;
+    Ok(weights)
 }
 
 // C.
-pub fn total_work(times: &[u16], arrows: &[[u16; 2]]) -> Amount
+pub fn total_work(times: &[u16], arrows: &[[u16; 2]]) -> Result<u32, Refusal>
     ensures { IsTotalWork times.now arrows.now result }
 {
-    match check(times, arrows) {
-        Check::Refused(refusal) => Amount::Refused(refusal),
-        Check::Sound => Amount::Is(total(times)),
-    }
+    check(times, arrows)?;
+    Ok(total(times))
 }
 
 // P.
-pub fn longest_path(times: &[u16], arrows: &[[u16; 2]]) -> Amount
+pub fn longest_path(times: &[u16], arrows: &[[u16; 2]]) -> Result<u32, Refusal>
     ensures { IsLongestPath times.now arrows.now result }
 {
-    match measure(times, arrows) {
-        Measure::Refused(refusal) => Amount::Refused(refusal),
-        Measure::Is(weights) => Amount::Is(weights.p),
-    }
+    let weights = measure(times, arrows)?;
+    Ok(weights.p)
 }

@@ -29,7 +29,7 @@ position_of-requires c = found_small c.args.arrows.now _ _ (few _ _ c.requires.a
 pub returns-in-Some : goal.returns-in-Some
 returns-in-Some c =
     let joins : Joined c.args.times.now c.args.arrows.now = joined _ _ c.requires.accepted c.if-not-all_join_two.ensures in
-    refused (refused_6 _ _ joins _ c.in-Some.ensures (rw c.position_of.ensures at c.refuse_at.ensures))
+    rw c.position_of.ensures (refused (refused_6 _ _ joins _ c.in-Some.ensures))
 
 pub order_subtasks-requires-clause-tidy : goal.order_subtasks-requires-clause-tidy
 order_subtasks-requires-clause-tidy c = (joined _ _ c.requires.accepted c.if-not-all_join_two.ensures).tidy
@@ -46,8 +46,8 @@ lowest_on_cycle-requires c =
     record { tidy = joins.tidy; chains = c.chain.ensures; among = (c.in-Err.ensures.is, c.in-Err.ensures.below) }
 
 -- a subtask's number is no larger than 256
-pub overflow_cast-lowest : goal.overflow_cast-lowest
-overflow_cast-lowest c =
+pub overflow_cast-result : goal.overflow_cast-result
+overflow_cast-result c =
     let joins : Joined c.args.times.now c.args.arrows.now = joined _ _ c.requires.accepted c.if-not-all_join_two.ensures in
     omega (arith, lowest_small joins.tidy _ c.in-Some-lowest_on_cycle.ensures)
 
@@ -60,4 +60,4 @@ pub returns-in-Some-lowest_on_cycle : goal.returns-in-Some-lowest_on_cycle
 returns-in-Some-lowest_on_cycle c =
     let joins : Joined c.args.times.now c.args.arrows.now = joined _ _ c.requires.accepted c.if-not-all_join_two.ensures in
     let once : Before 7 (arrow_rows c.args.times.now c.args.arrows.now) = before_7 _ _ joins c.in_default.ensures in
-    refused (refused_7 _ _ once joins.tidy _ c.in-Some-lowest_on_cycle.ensures c.refuse_at-in-Some-lowest_on_cycle.ensures)
+    refused (refused_7 _ _ once joins.tidy _ c.in-Some-lowest_on_cycle.ensures)

@@ -18,7 +18,7 @@ position_of-requires c = found_small c.args.arrows.now _ _ (few _ _ c.requires).
 
 pub returns-in-Some : goal.returns-in-Some
 unfolding IsCheck
-returns-in-Some c = some_outside c.args.times.now _ _ c.in-Some.ensures (rw c.position_of.ensures at c.refuse_at.ensures)
+returns-in-Some c = rw c.position_of.ensures (some_outside c.args.times.now _ _ c.in-Some.ensures)
 
 pub returns-in-None : goal.returns-in-None
 unfolding IsCheck
