@@ -19,7 +19,7 @@ use Rattle.theory.proofs.SortedArrows.{has_precedes, precedes_has}
 use Rattle.arranged.specs.Sides.{end, end_of}
 use Rattle.arranged.specs.declared.sides.Side.{Side}
 use Rattle.arranged.specs.declared.sides.Side.TheVariants.{From, To}
-use Rattle.arranged.specs.Free.{is_free, free_of, Marks, IsFront}
+use Rattle.arranged.specs.Free.{is_free, free_of, free_from, free_to, Marks, IsFront}
 
 -- ---- one arrow more
 
@@ -230,8 +230,8 @@ module _ {times : List ℕ} {arrows : List (List ℕ)} (g : SoundGraph times arr
         few = omega (arith, front.count, passing_few (is_free side arrows) m);
       }
 
-  pub front_lasts : {before after : List ℕ} {k : ℕ} → IsFront (free_of From arrows (min n 256)) before after k → Leads (lasts_of n arrows) after k
+  pub front_lasts : {before after : List ℕ} {k : ℕ} → IsFront (free_from arrows (min n 256)) before after k → Leads (lasts_of n arrows) after k
   front_lasts front = rw (← free_lasts) (front_free From front)
 
-  pub front_firsts : {before after : List ℕ} {k : ℕ} → IsFront (free_of To arrows (min n 256)) before after k → Leads (firsts_of n arrows) after k
+  pub front_firsts : {before after : List ℕ} {k : ℕ} → IsFront (free_to arrows (min n 256)) before after k → Leads (firsts_of n arrows) after k
   front_firsts front = rw (← free_firsts) (front_free To front)
