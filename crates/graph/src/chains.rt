@@ -1,6 +1,6 @@
 // The arrows as chains, one for each subtask.
 ghost use Rattle.std.specs.Prelude.{◌≡◌, ◌-◌, ◌≤◌, ◌<◌, length, get_or};
-ghost use Rattle.terms.specs.Graphs.{from_of};
+ghost use Rattle.terms.specs.Graphs.{from_of, to_of};
 ghost use Rattle.graph.specs.Chains.{Tidy};
 ghost use Rattle.graph.specs.Links.{IsEmpty, Linked};
 
@@ -63,4 +63,13 @@ pub fn source(arrows: &[[u16; 2]], c: usize) -> Subtask
 {
     let [from, _] = arrows[c - 1];
     Subtask(usize::from(from))
+}
+
+// The subtask to which it goes.
+pub fn target(arrows: &[[u16; 2]], c: usize) -> Subtask
+    requires { (1 ≤ c) × (c ≤ length arrows.now) }
+    ensures { (result.0 ≡ to_of arrows.now (c - 1)) × (result.0 < 65536) }
+{
+    let [_, to] = arrows[c - 1];
+    Subtask(usize::from(to))
 }

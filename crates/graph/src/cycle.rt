@@ -10,39 +10,37 @@ use crate::chains::{Links, source};
 use terms::Subtask;
 
 // Whether the arrows lead from a subtask back to it. It goes back along the arrows from there: each subtask that is met stands in the queue
-// once, and c is the position of the arrow that is looked at. `unmet` is 0 where a subtask was met.
+// once, and has its turn at v. c is the position of the arrow that is looked at.
 fn leads_back(n: usize, arrows: &[[u16; 2]], links: &Links, root: Subtask) -> bool
     requires tidy { Tidy n arrows.now × Among 1 n root.0 }
     requires linked { Linked arrows.now links.now }
     ensures { Says (LeadsTo arrows.now root.0 root.0) result }
 {
-    let mut unmet = [1u8; 257];
+    let mut met = [false; 257];
     let mut queue = [0u16; 256];
-    let mut met: usize = 0;
+    let mut queued: usize = 0;
     let mut done: usize = 0;
-    let mut c = links.begin(root);
+    let mut v = root.0;
     loop {
-        if c != 0 {
+        let mut c = links.begin(Subtask(v));
+        while c != 0 {
             let from = source(arrows, c);
             let p = from.0;
-            let m = unmet[p];
             if p == root.0 {
                 return true;
-            } else if m == 0 {
-                c = links.after(c);
-            } else {
-                unmet[p] = 0;
-                queue[met] = p as u16;
-                met += 1;
-                c = links.after(c);
             }
-        } else if done == met {
-            return false;
-        } else {
-            let u = usize::from(queue[done]);
-            done += 1;
-            c = links.begin(Subtask(u));
+            if !met[p] {
+                met[p] = true;
+                queue[queued] = p as u16;
+                queued += 1;
+            }
+            c = links.after(c);
         }
+        if done == queued {
+            return false;
+        }
+        v = usize::from(queue[done]);
+        done += 1;
     }
 }
 

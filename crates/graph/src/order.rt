@@ -5,8 +5,7 @@ ghost use Rattle.graph.specs.Chains.{Tidy};
 ghost use Rattle.graph.specs.Links.{Linked};
 ghost use Rattle.graph.specs.Ordered.{Orders};
 
-use crate::chains::{Links, source};
-use inputs::to_at;
+use crate::chains::{Links, source, target};
 use terms::Subtask;
 
 // Whether the subtasks can stand in an order, predecessors first, which is left in `order`; else the arrows close a cycle, and the answer
@@ -60,7 +59,7 @@ pub fn order_subtasks(
                 }
                 depth -= 1;
                 let a = usize::from(stack[depth]);
-                let to = to_at(arrows, a - 1);
+                let to = target(arrows, a);
                 u = to.0;
                 c = links.after(a);
             }

@@ -25,9 +25,8 @@ fn latest(n: usize, v: Subtask, arrows: &[[u16; 2]], links: &Links, finish: &[u3
     requires linked { Linked arrows.now links.now }
     ensures { Latest arrows.now finish.now v.0 0 result }
 {
-    let to = v.0;
     let mut most: u32 = 0;
-    let mut c = links.begin(Subtask(to));
+    let mut c = links.begin(v);
     while c != 0 {
         let from = source(arrows, c);
         let p = from.0;
