@@ -12,11 +12,11 @@ use Rattle.graph.proofs.CycleSearch.{search_back, search_skip, room_for, search_
 use Rattle.graph.proofs.cycle.leads_back.Goals as goal
 
 pub begin-c-requires : goal.begin-c-requires
-begin-c-requires c = omega (arith, c.requires.tidy.0.subtasks, c.requires.tidy.1.high)
+begin-c-requires c = omega (arith, c.args.graph.now.tidy.subtasks, c.requires.high)
 
 pub loop-c-init : goal.loop-c-init
 loop-c-init c =
-    rw c.begin-c.ensures (search_start c.requires.tidy.0 c.requires.tidy.1 c.requires.linked (length-replicate {A = ℕ} 256 0))
+    rw c.begin-c.ensures (search_start c.args.graph.now.tidy c.requires c.args.graph.now.linked (length-replicate {A = ℕ} 256 0))
 
 pub source-from-requires : goal.source-from-requires
 source-from-requires c = (omega arith, c.loop-c.invariant.along.within)
@@ -24,42 +24,42 @@ source-from-requires c = (omega arith, c.loop-c.invariant.along.within)
 pub bounds-unmet-p : goal.bounds-unmet-p
 bounds-unmet-p c =
     -- what is known at each place: at an arrow from p
-    let at_arrow : Looks c.args.n c.args.arrows.now (turn c.args.root.0 c.loop-c.queue c.loop-c.done) c.loop-c.c c.source-from.result.0 =
+    let at_arrow : Looks c.args.graph.now.n c.args.graph.now.arrows.now (turn c.args.root.0 c.loop-c.queue c.loop-c.done) c.loop-c.c c.source-from.result.0 =
     looks c.loop-c.invariant.tidy c.loop-c.invariant.along c.if-c-ne0.true c.source-from.ensures.0 in
     at_arrow.from_small
 
 pub returns-then-p-root : goal.returns-then-p-root
 returns-then-p-root c =
     -- what is known at each place: at an arrow from p
-    let at_arrow : Looks c.args.n c.args.arrows.now (turn c.args.root.0 c.loop-c.queue c.loop-c.done) c.loop-c.c c.source-from.result.0 =
+    let at_arrow : Looks c.args.graph.now.n c.args.graph.now.arrows.now (turn c.args.root.0 c.loop-c.queue c.loop-c.done) c.loop-c.c c.source-from.result.0 =
     looks c.loop-c.invariant.tidy c.loop-c.invariant.along c.if-c-ne0.true c.source-from.ensures.0 in
     search_back c.loop-c.invariant at_arrow c.if-p-root.true
 
 pub after-c-requires : goal.after-c-requires
 after-c-requires c =
     -- what is known at each place: at an arrow from p
-    let at_arrow : Looks c.args.n c.args.arrows.now (turn c.args.root.0 c.loop-c.queue c.loop-c.done) c.loop-c.c c.source-from.result.0 =
+    let at_arrow : Looks c.args.graph.now.n c.args.graph.now.arrows.now (turn c.args.root.0 c.loop-c.queue c.loop-c.done) c.loop-c.c c.source-from.result.0 =
     looks c.loop-c.invariant.tidy c.loop-c.invariant.along c.if-c-ne0.true c.source-from.ensures.0 in
     let at = at_arrow in (at.some, at.few)
 
 pub bounds-unmet-p-else-m-eq0 : goal.bounds-unmet-p-else-m-eq0
 bounds-unmet-p-else-m-eq0 c =
     -- what is known at each place: at an arrow from p
-    let at_arrow : Looks c.args.n c.args.arrows.now (turn c.args.root.0 c.loop-c.queue c.loop-c.done) c.loop-c.c c.source-from.result.0 =
+    let at_arrow : Looks c.args.graph.now.n c.args.graph.now.arrows.now (turn c.args.root.0 c.loop-c.queue c.loop-c.done) c.loop-c.c c.source-from.result.0 =
     looks c.loop-c.invariant.tidy c.loop-c.invariant.along c.if-c-ne0.true c.source-from.ensures.0 in
     at_arrow.from_small
 
 pub overflow_cast-queue : goal.overflow_cast-queue
 overflow_cast-queue c =
     -- what is known at each place: at an arrow from p
-    let at_arrow : Looks c.args.n c.args.arrows.now (turn c.args.root.0 c.loop-c.queue c.loop-c.done) c.loop-c.c c.source-from.result.0 =
+    let at_arrow : Looks c.args.graph.now.n c.args.graph.now.arrows.now (turn c.args.root.0 c.loop-c.queue c.loop-c.done) c.loop-c.c c.source-from.result.0 =
     looks c.loop-c.invariant.tidy c.loop-c.invariant.along c.if-c-ne0.true c.source-from.ensures.0 in
     omega (arith, at_arrow.from_small)
 
 pub offset_bounds-queue-met : goal.offset_bounds-queue-met
 offset_bounds-queue-met c =
     -- what is known at each place: at an arrow from p
-    let at_arrow : Looks c.args.n c.args.arrows.now (turn c.args.root.0 c.loop-c.queue c.loop-c.done) c.loop-c.c c.source-from.result.0 =
+    let at_arrow : Looks c.args.graph.now.n c.args.graph.now.arrows.now (turn c.args.root.0 c.loop-c.queue c.loop-c.done) c.loop-c.c c.source-from.result.0 =
     looks c.loop-c.invariant.tidy c.loop-c.invariant.along c.if-c-ne0.true c.source-from.ensures.0 in
     -- where p was not met
     let at_new : c.loop-c.met < 256 =
@@ -69,7 +69,7 @@ offset_bounds-queue-met c =
 pub bounds-queue-met : goal.bounds-queue-met
 bounds-queue-met c =
     -- what is known at each place: at an arrow from p
-    let at_arrow : Looks c.args.n c.args.arrows.now (turn c.args.root.0 c.loop-c.queue c.loop-c.done) c.loop-c.c c.source-from.result.0 =
+    let at_arrow : Looks c.args.graph.now.n c.args.graph.now.arrows.now (turn c.args.root.0 c.loop-c.queue c.loop-c.done) c.loop-c.c c.source-from.result.0 =
     looks c.loop-c.invariant.tidy c.loop-c.invariant.along c.if-c-ne0.true c.source-from.ensures.0 in
     -- where p was not met
     let at_new : c.loop-c.met < 256 =
@@ -79,7 +79,7 @@ bounds-queue-met c =
 pub overflow_add-met : goal.overflow_add-met
 overflow_add-met c =
     -- what is known at each place: at an arrow from p
-    let at_arrow : Looks c.args.n c.args.arrows.now (turn c.args.root.0 c.loop-c.queue c.loop-c.done) c.loop-c.c c.source-from.result.0 =
+    let at_arrow : Looks c.args.graph.now.n c.args.graph.now.arrows.now (turn c.args.root.0 c.loop-c.queue c.loop-c.done) c.loop-c.c c.source-from.result.0 =
     looks c.loop-c.invariant.tidy c.loop-c.invariant.along c.if-c-ne0.true c.source-from.ensures.0 in
     -- where p was not met
     let at_new : c.loop-c.met < 256 =
@@ -89,7 +89,7 @@ overflow_add-met c =
 pub after-c-requires-else-m-eq0 : goal.after-c-requires-else-m-eq0
 after-c-requires-else-m-eq0 c =
     -- what is known at each place: at an arrow from p
-    let at_arrow : Looks c.args.n c.args.arrows.now (turn c.args.root.0 c.loop-c.queue c.loop-c.done) c.loop-c.c c.source-from.result.0 =
+    let at_arrow : Looks c.args.graph.now.n c.args.graph.now.arrows.now (turn c.args.root.0 c.loop-c.queue c.loop-c.done) c.loop-c.c c.source-from.result.0 =
     looks c.loop-c.invariant.tidy c.loop-c.invariant.along c.if-c-ne0.true c.source-from.ensures.0 in
     let at = at_arrow in (at.some, at.few)
 
@@ -124,7 +124,7 @@ begin-c-requires-else-done-met c =
 skips : goal.loop-c-preserved-then-m-eq0 × goal.loop-c-smaller-then-m-eq0
 skips = both (λ c.
     -- what is known at each place: at an arrow from p
-    let at_arrow : Looks c.args.n c.args.arrows.now (turn c.args.root.0 c.loop-c.queue c.loop-c.done) c.loop-c.c c.source-from.result.0 =
+    let at_arrow : Looks c.args.graph.now.n c.args.graph.now.arrows.now (turn c.args.root.0 c.loop-c.queue c.loop-c.done) c.loop-c.c c.source-from.result.0 =
     looks c.loop-c.invariant.tidy c.loop-c.invariant.along c.if-c-ne0.true c.source-from.ensures.0 in
     rw c.after-c.ensures (search_skip c.loop-c.invariant at_arrow c.if-m-eq0.true))
 
@@ -137,7 +137,7 @@ loop-c-preserved-then-m-eq0 = skips.0
 meets : goal.loop-c-preserved-else-m-eq0 × goal.loop-c-smaller-else-m-eq0
 meets = both (λ c.
     -- what is known at each place: at an arrow from p
-    let at_arrow : Looks c.args.n c.args.arrows.now (turn c.args.root.0 c.loop-c.queue c.loop-c.done) c.loop-c.c c.source-from.result.0 =
+    let at_arrow : Looks c.args.graph.now.n c.args.graph.now.arrows.now (turn c.args.root.0 c.loop-c.queue c.loop-c.done) c.loop-c.c c.source-from.result.0 =
     looks c.loop-c.invariant.tidy c.loop-c.invariant.along c.if-c-ne0.true c.source-from.ensures.0 in
     rw c.after-c-else-m-eq0.ensures
     (search_meet c.loop-c.invariant at_arrow c.if-m-eq0.false c.if-p-root.false))

@@ -2,7 +2,7 @@
 use Rattle.std.proofs.Common.{arith}
 use native.Mathlib.Omega.{arith}
 use Rattle.terms.specs.Graphs.{from_of}
-use Rattle.graph.proofs.chains.source.Goals as goal
+use Rattle.graph.proofs.chains.Chained.source.Goals as goal
 
 pub returns : goal.returns
 unfolding from_of
