@@ -38,22 +38,6 @@ impl Links {
             self.first[v] = (i + 1) as u32;
         }
     }
-
-    // The position at which the chain of v begins.
-    pub fn begin(&self, v: Subtask) -> usize
-        requires { v.0 < 257 }
-        ensures { result ≡ get_or self.now.first v.0 0 }
-    {
-        self.first[v.0] as usize
-    }
-
-    // The position that comes after c in its chain.
-    pub fn after(&self, c: usize) -> usize
-        requires { (1 ≤ c) × (c ≤ 2048) }
-        ensures { result ≡ get_or self.now.next (c - 1) 0 }
-    {
-        usize::from(self.next[c - 1])
-    }
 }
 
 // The arrows of n subtasks and their chains: each arrow names two of the subtasks.
