@@ -9,34 +9,10 @@ ghost use Rattle.room.specs.Puts.{Put};
 pub fn number_size(x: u32) -> usize
     ensures { (result ≡ length (decimal x)) × (1 ≤ result) × (result ≤ 10) }
 {
-    if x < 10 {
-        return 1;
+    match x.checked_ilog10() {
+        None => 1,
+        Some(k) => k as usize + 1,
     }
-    if x < 100 {
-        return 2;
-    }
-    if x < 1000 {
-        return 3;
-    }
-    if x < 10000 {
-        return 4;
-    }
-    if x < 100000 {
-        return 5;
-    }
-    if x < 1000000 {
-        return 6;
-    }
-    if x < 10000000 {
-        return 7;
-    }
-    if x < 100000000 {
-        return 8;
-    }
-    if x < 1000000000 {
-        return 9;
-    }
-    10
 }
 
 // One byte.
@@ -55,20 +31,13 @@ pub fn put_number(text: &mut [u8], at: usize, x: u32) -> usize
     ensures { Put text.old at (decimal x) text.new result }
 {
     let size = number_size(x);
-    if text.len() < at {
+    if text.len().saturating_sub(at) < size {
         return at;
     }
-    if text.len() - at < size {
-        return at;
-    }
-    let past = at + size;
-    let mut i = past;
     let mut rest = x;
-    while 10 <= rest {
-        i -= 1;
-        text[i] = (48 + rest % 10) as u8;
+    for i in (at..at + size).rev() {
+        text[i] = b'0' + (rest % 10) as u8;
         rest /= 10;
     }
-    text[at] = (48 + rest) as u8;
-    past
+    at + size
 }
