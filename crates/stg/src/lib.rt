@@ -2,6 +2,7 @@
 #![tactic(auto)]
 
 mod clearing;
+mod numbers;
 mod outer_lines;
 mod predecessors;
 mod tasks;

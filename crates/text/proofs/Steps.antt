@@ -15,7 +15,7 @@ use Rattle.text.specs.declared.Next.{Next}
 use Rattle.text.specs.declared.Next.TheVariants as next
 use Rattle.text.specs.Steps.{line_size, no_number, next_at, next_number}
 use Rattle.text.specs.Rest.{line, later}
-use Rattle.text.proofs.Standing.{Ended, Stands}
+use Rattle.text.specs.Standing.{Ended, Stands}
 use Rattle.text.proofs.Digits.{false_true}
 use Rattle.text.proofs.Places.{blanks_within, digits_within, size_within}
 use Rattle.text.proofs.Lines.{fields_blanks, later_blanks, blanks_none, Run, run, FieldOrSpoilt, field_or_spoilt, line_off, spoilt}

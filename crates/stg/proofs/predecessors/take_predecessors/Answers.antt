@@ -1,7 +1,6 @@
 -- `take_predecessors`: the rest of a line, predecessor by predecessor. Assumes nothing.
-use mathlib.Core.Path.{refl, ◌∙◌}
-use native.Mathlib.Omega.{arith}
-use Rattle.text.proofs.Standing.{Passed}
+use Rattle.std.proofs.Common.{refl, ◌∙◌, arith}
+use Rattle.text.specs.Standing.{Passed}
 use Rattle.stg.proofs.NextNumbers.{seen}
 use Rattle.stg.proofs.RestOfLine.{passing_none, passing_more, passing_bad, passing_end}
 use Rattle.stg.proofs.predecessors.take_predecessors.Goals as goal
@@ -52,6 +51,6 @@ loop-e-preserved c =
     let passed : Passed c.args.text.now c.loop-e.here c.in-Field.p c.in-Field.e =
     seen c.args.text.now c.loop-e.here _ _ c.in-Field.is (omega arith)
     c.next_number.ensures in (
-      passing_more c.loop-e.invariant.0 passed c.still_below-below.ensures c.add_arrow-b.ensures,
+      passing_more c.loop-e.invariant.0 passed refl c.add_arrow-b.ensures,
       c.arrows-1.given ∙ c.loop-e.invariant.1,
     )
