@@ -96,8 +96,7 @@ pub fn take_subtasks(
 {
     let mut here = at;
     let mut a: usize = 0;
-    let mut j: usize = 0;
-    while j < n {
+    for j in 0..n {
         match take_subtask(text, here, j, times, arrows, a) {
             Step::Refused(refusal) => {
                 return Step::Refused(refusal);
@@ -107,7 +106,6 @@ pub fn take_subtasks(
                 here = far.next;
             }
         }
-        j += 1;
     }
     Step::Counted(Progress {
         count: a,

@@ -1,4 +1,5 @@
 -- `first_line`: one number, of 1..256. Assumes nothing.
+use Rattle.std.proofs.Common.{arith}
 use Rattle.stg.proofs.OneLine.{made, first_none, first_more, first_low, first_high, first_is}
 use Rattle.stg.proofs.outer_lines.first_line.Goals as goal
 
@@ -14,11 +15,11 @@ returns-in_default-line_end c =
 
 pub returns-then-n-lt1 : goal.returns-then-n-lt1
 returns-then-n-lt1 c =
-    made (first_low c.in-Some.ensures c.in-Some-line_end.ensures c.if-n-lt1.true) c.refuse-then-n-lt1.ensures
+    made (first_low c.in-Some.ensures c.in-Some-line_end.ensures (omega arith)) c.refuse-then-n-lt1.ensures
 
 pub returns-then-n-gt256 : goal.returns-then-n-gt256
 returns-then-n-gt256 c =
-    made (first_high c.in-Some.ensures c.in-Some-line_end.ensures c.if-n-gt256.true) c.refuse-then-n-gt256.ensures
+    made (first_high c.in-Some.ensures c.in-Some-line_end.ensures (omega arith)) c.refuse-then-n-gt256.ensures
 
 pub returns : goal.returns
-returns c = first_is c.in-Some.ensures c.in-Some-line_end.ensures c.if-n-lt1.false c.if-n-gt256.false
+returns c = first_is c.in-Some.ensures c.in-Some-line_end.ensures (omega arith) (omega arith)

@@ -18,7 +18,7 @@ returns-in_default c =
 pub returns-then-t-gt65535 : goal.returns-then-t-gt65535
 returns-then-t-gt65535 c =
     λ k. made (subtask_long c.args.text.now c.args.at c.args.j
-    (tasked c.args.text.now c.args.at (c.args.j + 1) _ _ _ _ _ c.in-Some.is c.task_line.ensures) c.if-t-gt65535.true k) c.refuse-then-t-gt65535.ensures
+    (tasked c.args.text.now c.args.at (c.args.j + 1) _ _ _ _ _ c.in-Some.is c.task_line.ensures) (omega arith) k) c.refuse-then-t-gt65535.ensures
 
 pub offset_bounds-times-j : goal.offset_bounds-times-j
 offset_bounds-times-j c = omega arith
