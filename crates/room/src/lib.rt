@@ -9,9 +9,17 @@ ghost use Rattle.room.specs.Puts.{Put};
 pub fn number_size(x: u32) -> usize
     ensures { (result ≡ length (decimal x)) × (1 ≤ result) × (result ≤ 10) }
 {
-    match x.checked_ilog10() {
-        None => 1,
-        Some(k) => k as usize + 1,
+    match x {
+        0..=9 => 1,
+        10..=99 => 2,
+        100..=999 => 3,
+        1000..=9999 => 4,
+        10000..=99999 => 5,
+        100000..=999999 => 6,
+        1000000..=9999999 => 7,
+        10000000..=99999999 => 8,
+        100000000..=999999999 => 9,
+        _ => 10,
     }
 }
 
@@ -35,9 +43,10 @@ pub fn put_number(text: &mut [u8], at: usize, x: u32) -> usize
         return at;
     }
     let mut rest = x;
-    for i in (at..at + size).rev() {
+    for i in (at + 1..at + size).rev() {
         text[i] = b'0' + (rest % 10) as u8;
         rest /= 10;
     }
+    text[at] = b'0' + rest as u8;
     at + size
 }

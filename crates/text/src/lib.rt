@@ -61,7 +61,7 @@ pub fn next_field(text: &[u8], at: usize) -> &[u8]
     ensures { result.now ≡ digits (drop at text.now) }
 {
     let end = digits_end(text, at);
-    text.get(at..end).unwrap_or(&[])
+    if end == at { &[] } else { &text[at..end] }
 }
 
 // The number of a field. Its first digit stands before the loop, as many fields have no other.
@@ -93,6 +93,7 @@ fn no_number(text: &[u8], at: usize) -> Next
 
 // What stands next on the line at `at`: the field is taken as a piece of the text, then read as a number. What stands behind its digits is
 // met by the next call, also where it is neither a blank nor the line's end.
+#[inline(always)]
 pub fn next_number(text: &[u8], at: usize) -> Next
     ensures { result ≡ next_number at (drop at text.now) }
 {
