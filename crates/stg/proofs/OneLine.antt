@@ -2,6 +2,7 @@
 use mathlib.Core.Path.{◌≡◌, refl, sym, ◌∙◌, ap}
 use mathlib.Core.List.{List, [], ◌∷◌}
 use mathlib.Core.Bool.{Bool, true, false, ◌&&◌, and-false}
+use Rattle.std.specs.Prelude.{Option}
 use Prim.Native.Nat.{ℕ, suc, ◌≤◌, ◌<◌}
 use native.Mathlib.Omega.{arith}
 use borrow.Author.Tests.{eq-eqb, ne_eqb, le-leb, lt-leb, le-ltb}
@@ -14,13 +15,13 @@ use Rattle.terms.specs.Readings.{Reading, refuse, line_at_hand, lines_after, is_
 use Rattle.terms.specs.Readings.{trailer, exit_line, task_lines, entry_line, read_lines}
 use Rattle.terms.specs.declared.Refusal.{Refusal}
 use Rattle.text.specs.Rest.{line, later}
-use Rattle.text.proofs.Standing.{Ended, Passed}
+use Rattle.text.specs.Standing.{Ended, Passed}
 use Rattle.text.proofs.Lines.{lines_cons}
 use Rattle.stg.specs.LinesRead.{PredecessorsAre, PredecessorsOf, TaskIs, TaskOf, FirstIs, Dummy, dummy, DummyOf}
-use Rattle.stg.specs.declared.predecessors.Predecessors.{Predecessors}
+use Rattle.stg.specs.declared.predecessors.Rest.{Rest}
 use Rattle.stg.specs.declared.outer_lines.Passage.{Passage}
-use Rattle.stg.specs.declared.tasks.Task.{Task}
-use Rattle.stg.proofs.NextNumbers.{NoNumber, SomeNumber}
+use Rattle.stg.specs.declared.tasks.TaskLine.{TaskLine}
+use Rattle.stg.specs.Numbers.{NoNumber, SomeNumber}
 
 -- ---- the line at hand
 
@@ -174,11 +175,11 @@ module _ (text : List ℕ) (at i : ℕ) where
           }
 
 -- what a reply that is known tells: of the predecessors, of a task's line
-pub preceded : (text : List ℕ) (at i : ℕ) (row : List (List ℕ)) (a : ℕ) (row' : List (List ℕ)) (r x : Predecessors) → r ≡ x
+pub preceded : (text : List ℕ) (at i : ℕ) (row : List (List ℕ)) (a : ℕ) (row' : List (List ℕ)) (r x : Option Rest) → r ≡ x
     → PredecessorsOf text at i row a row' r → PredecessorsOf text at i row a row' x
 preceded text at i row a row' r x e h = rw e at h
 
-pub tasked : (text : List ℕ) (at i : ℕ) (row : List (List ℕ)) (a : ℕ) (row' : List (List ℕ)) (r x : Task) → r ≡ x → TaskOf text at i row a row' r
+pub tasked : (text : List ℕ) (at i : ℕ) (row : List (List ℕ)) (a : ℕ) (row' : List (List ℕ)) (r x : Option TaskLine) → r ≡ x → TaskOf text at i row a row' r
     → TaskOf text at i row a row' x
 tasked text at i row a row' r x e h = rw e at h
 

@@ -6,7 +6,7 @@ use Prim.Native.Nat.{ℕ, ◌+◌, ◌≤◌, ◌<◌}
 use native.Mathlib.Omega.{arith}
 use borrow.Author.Tests.{le-leb, lt-leb}
 use lib.Dec.{leb}
-use lib.ListN.{length, take, drop, length-map}
+use lib.ListN.{length, take, drop, length-map, length-take}
 use lib.Seq.{sets, sets-eq, take_at}
 use Rattle.terms.specs.Rows.{Accepted, refusal_of}
 use Rattle.terms.specs.Graphs.{Among}
@@ -174,6 +174,16 @@ module _ (text ts : List ℕ) (ar : List (List ℕ)) (ts' : List ℕ) (ar' : Lis
       told_check refusal e = rw is (tells_check (check.Refused refusal) e)
 
 -- ---- the reply
+
+-- it keeps no more than the two rows have
+pub kept_within : (reading : Reading) (ts : List ℕ) (ar : List (List ℕ)) (r : Counts) → TellsOf reading ts ar r
+    → ((kept_by r).subtasks ≤ length ts) × ((kept_by r).arrows ≤ length ar)
+kept_within reading ts ar (counts.Refused refusal) x = (omega arith, omega arith)
+kept_within (refuse k) ts ar (counts.Read size) x = absurd x
+kept_within (graph us bs) ts ar (counts.Read size) x = (
+  omega (arith, x.subtasks_are, ap length x.times_begin, length-take (length us) ts),
+  omega (arith, x.arrows_are, ap length x.arrows_begin, length-take (length bs) ar),
+)
 
 module _ (L M : ℕ) (ts : List ℕ) (ar : List (List ℕ)) (lt : length ts ≡ L) (la : length ar ≡ M) (ts' : List ℕ) (ar' : List (List ℕ)) where
   replies : (reading : Reading) (r : Counts) → TellsOf reading ts ar r → ClearedPast (kept_by r).subtasks ts ts' (kept_by r).arrows ar ar'

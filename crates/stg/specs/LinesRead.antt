@@ -1,5 +1,5 @@
 -- What the reader's functions for one line and for several answer, of a text from a place on.
-use Rattle.std.specs.Prelude.{◌≡◌, List, [], ◌∷◌, map, Bool, true, false, cond, ℕ, suc, ◌+◌, ◌≤◌, ◌<◌, leb, ltb, length, get_or, drop}
+use Rattle.std.specs.Prelude.{◌≡◌, List, [], ◌∷◌, map, Bool, true, false, cond, ℕ, suc, ◌+◌, ◌≤◌, ◌<◌, leb, ltb, length, get_or, drop, Option, Some, None}
 use Rattle.std.proofs.lemmas.List.Edits.{sets}
 use Rattle.terms.specs.Graphs.{Among}
 use Rattle.terms.specs.Texts.{all_pass, lines, proper, numbers}
@@ -11,10 +11,8 @@ use Rattle.terms.specs.declared.Check.TheVariants as check
 use Rattle.terms.specs.declared.Counts.{Counts}
 use Rattle.terms.specs.declared.Counts.TheVariants as counts
 use Rattle.text.specs.Rest.{line, later}
-use Rattle.stg.specs.declared.predecessors.Predecessors.{Predecessors}
-use Rattle.stg.specs.declared.predecessors.Predecessors.TheVariants as predecessors
-use Rattle.stg.specs.declared.tasks.Task.{Task}
-use Rattle.stg.specs.declared.tasks.Task.TheVariants as task
+use Rattle.stg.specs.declared.predecessors.Rest.{Rest}
+use Rattle.stg.specs.declared.tasks.TaskLine.{TaskLine}
 use Rattle.stg.specs.declared.tasks.Step.{Step}
 use Rattle.stg.specs.declared.tasks.Step.TheVariants as step
 use Rattle.stg.specs.declared.outer_lines.Passage.{Passage}
@@ -60,9 +58,9 @@ pub record PredecessorsAre (text : List ℕ) (at i : ℕ) (row : List (List ℕ)
   pub many : length (numbers (line (drop at text))) ≡ k
   pub gives : Gives text at i (numbers (line (drop at text))) row a below b e row'
 
-abbrev pub PredecessorsOf : List ℕ → ℕ → ℕ → List (List ℕ) → ℕ → List (List ℕ) → Predecessors → Type 0
-PredecessorsOf text at i row a row' predecessors.Misshapen = proper (line (drop at text)) ≡ false
-PredecessorsOf text at i row a row' (predecessors.Are rest) =
+abbrev pub PredecessorsOf : List ℕ → ℕ → ℕ → List (List ℕ) → ℕ → List (List ℕ) → Option Rest → Type 0
+PredecessorsOf text at i row a row' None = proper (line (drop at text)) ≡ false
+PredecessorsOf text at i row a row' (Some rest) =
     PredecessorsAre text at i row a rest.count rest.below rest.arrows rest.next row'
 
 -- ---- the tasks' lines
@@ -75,9 +73,9 @@ pub record TaskIs (text : List ℕ) (at i : ℕ) (row : List (List ℕ)) (a t : 
   pub time : time_in (line (drop at text)) ≡ t
   pub gives : Gives text at i (predecessors_in (line (drop at text))) row a below b e row'
 
-abbrev pub TaskOf : List ℕ → ℕ → ℕ → List (List ℕ) → ℕ → List (List ℕ) → Task → Type 0
-TaskOf text at i row a row' task.Misshapen = is_task i (line (drop at text)) ≡ false
-TaskOf text at i row a row' (task.Is line) = TaskIs text at i row a line.time line.below line.arrows line.next row'
+abbrev pub TaskOf : List ℕ → ℕ → ℕ → List (List ℕ) → ℕ → List (List ℕ) → Option TaskLine → Type 0
+TaskOf text at i row a row' None = is_task i (line (drop at text)) ≡ false
+TaskOf text at i row a row' (Some line) = TaskIs text at i row a line.time line.below line.arrows line.next row'
 
 -- what lines leave: a refusal, or both rows and how many stand in each
 pub data Outcome : Type 0 where
@@ -141,9 +139,9 @@ pub record Follower (text : List ℕ) (at e : ℕ) : Type 0 where
   pub inside : e ≤ length text
   pub on : at < e
 
-abbrev pub FollowerOf : List ℕ → ℕ → Passage → Type 0
-FollowerOf text at (passage.Refused refusal) = may_follow (line (drop at text)) ≡ false
-FollowerOf text at (passage.Passed e) = Follower text at e
+abbrev pub FollowerOf : List ℕ → ℕ → Option ℕ → Type 0
+FollowerOf text at None = may_follow (line (drop at text)) ≡ false
+FollowerOf text at (Some e) = Follower text at e
 
 -- the first line and the entry dummy's: n, and the subtasks' lines begin at e
 pub record Opened (text : List ℕ) (n e : ℕ) : Type 0 where

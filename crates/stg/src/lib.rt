@@ -1,7 +1,7 @@
 // The reader of STG texts: one pass over the text, line by line, field by field. And the writer, under its public name.
 #![tactic(auto)]
 
-mod clearing;
+mod numbers;
 mod outer_lines;
 mod predecessors;
 mod tasks;
@@ -12,9 +12,8 @@ ghost use Rattle.terms.specs.Texts.{lines};
 ghost use Rattle.terms.specs.Readings.{task_lines, read_lines, read_text, IsRead};
 ghost use Rattle.terms.specs.Replies.{IsWritten};
 ghost use Rattle.stg.specs.LinesRead.{Leaves};
-ghost use Rattle.stg.specs.RowsRead.{ChecksRead, RoomOf, TellsOf, kept_by};
+ghost use Rattle.stg.specs.RowsRead.{ChecksRead, RoomOf, TellsOf, kept_by, ClearedPast};
 
-use clearing::clear_past;
 use graph::check;
 use limits::check_subtasks;
 use outer_lines::{take_closing, take_opening};
@@ -117,13 +116,22 @@ fn kept_by(reply: Counts) -> GraphSize
     }
 }
 
+// Clears the places of the two rows past the last time and the last arrow.
+fn clear_past(times: &mut [u16], arrows: &mut [[u16; 2]], kept: GraphSize)
+    requires { (kept.subtasks ≤ length times.old) × (kept.arrows ≤ length arrows.old) }
+    ensures { ClearedPast kept.subtasks times.old times.new kept.arrows arrows.old arrows.new }
+{
+    times[kept.subtasks..].fill(0);
+    arrows[kept.arrows..].fill([0, 0]);
+}
+
 // Reads an STG text: the counts, and the graph in the two rows, with zeros past it; or a refusal, and rows of zeros.
 pub fn read_stg(text: &[u8], times: &mut [u16], arrows: &mut [[u16; 2]]) -> Counts
     ensures { IsRead (length times.old) (length arrows.old) text.now times.new arrows.new result }
 {
     let reply = read_graph(text, times, arrows);
     let kept = kept_by(reply);
-    clear_past(times, kept.subtasks, arrows, kept.arrows);
+    clear_past(times, arrows, kept);
     reply
 }
 

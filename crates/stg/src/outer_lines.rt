@@ -5,9 +5,10 @@ ghost use Rattle.terms.specs.Rows.{refusal_of};
 ghost use Rattle.terms.specs.Readings.{refuse, graph, trailer, exit_line};
 ghost use Rattle.stg.specs.LinesRead.{FirstOf, DummyOf, FollowerOf, OpeningOf, closed};
 
-use super::tasks::{Progress, Step, Task, task_line};
+use super::numbers::{line_end, number};
+use super::tasks::{Progress, Step, task_line};
 use terms::{Check, Refusal, refuse};
-use text::{Next, line_after, next_number};
+use text::line_after;
 
 // The place where the next line begins.
 #[derive(Clone, Copy)]
@@ -20,10 +21,10 @@ pub enum Passage {
 fn first_line(text: &[u8]) -> Step
     ensures { FirstOf text.now result }
 {
-    let Next::Field(n, past_n) = next_number(text, 0) else {
+    let Some((n, past_n)) = number(text, 0) else {
         return Step::Refused(refuse(21));
     };
-    let Next::LineEnd(e) = next_number(text, past_n) else {
+    let Some(e) = line_end(text, past_n) else {
         return Step::Refused(refuse(21));
     };
     if n < 1 {
@@ -41,7 +42,7 @@ fn dummy_line(text: &[u8], at: usize, i: usize) -> Passage
     ensures { DummyOf text.now at i result }
 {
     let mut spare = [[0u16; 2]; 1];
-    let Task::Is(line) = task_line(text, at, i, &mut spare, 0) else {
+    let Some(line) = task_line(text, at, i, &mut spare, 0) else {
         return Passage::Refused(refuse(22));
     };
     if line.time != 0 {
@@ -53,18 +54,15 @@ fn dummy_line(text: &[u8], at: usize, i: usize) -> Passage
     Passage::Passed(line.next)
 }
 
-// A blank line or a comment, after the last task's line.
-fn following_line(text: &[u8], at: usize) -> Passage
+// A blank line or a comment, after the last task's line: where the next line begins.
+fn following_line(text: &[u8], at: usize) -> Option<usize>
     requires { at < length text.now }
     ensures { FollowerOf text.now at result }
 {
-    if text[at] == 35 {
-        return Passage::Passed(line_after(text, at));
+    if text[at] == b'#' {
+        return Some(line_after(text, at));
     }
-    let Next::LineEnd(e) = next_number(text, at) else {
-        return Passage::Refused(refuse(22));
-    };
-    Passage::Passed(e)
+    line_end(text, at)
 }
 
 // Whether only such lines stand from `at` on.
@@ -74,14 +72,10 @@ fn may_end(text: &[u8], at: usize) -> bool
 {
     let mut here = at;
     while here < text.len() {
-        match following_line(text, here) {
-            Passage::Refused(_) => {
-                return false;
-            }
-            Passage::Passed(e) => {
-                here = e;
-            }
-        }
+        let Some(next) = following_line(text, here) else {
+            return false;
+        };
+        here = next;
     }
     true
 }

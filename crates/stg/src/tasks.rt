@@ -2,9 +2,9 @@
 ghost use Rattle.std.specs.Prelude.{◌≤◌, ◌<◌, length};
 ghost use Rattle.stg.specs.LinesRead.{TaskOf, SubtaskOf, SubtasksOf};
 
-use super::predecessors::{Predecessors, narrow, take_predecessors};
+use super::numbers::number;
+use super::predecessors::take_predecessors;
 use terms::{Refusal, refuse};
-use text::{Next, next_number};
 
 // A task's line: its time, whether its predecessors are all below its index, how many arrows there are then, and where the next line begins.
 #[derive(Clone, Copy)]
@@ -13,12 +13,6 @@ pub struct TaskLine {
     pub below: bool,
     pub arrows: usize,
     pub next: usize,
-}
-
-#[derive(Clone, Copy)]
-pub enum Task {
-    Misshapen,
-    Is(TaskLine),
 }
 
 // How far the text is read: how many subtasks, or arrows, there are so far, and where the next line begins.
@@ -35,30 +29,28 @@ pub enum Step {
 }
 
 // The line of task i: its index, its time, the number of its predecessors, and as many predecessors.
-pub fn task_line(text: &[u8], at: usize, i: usize, arrows: &mut [[u16; 2]], a: usize) -> Task
+pub fn task_line(
+    text: &[u8],
+    at: usize,
+    i: usize,
+    arrows: &mut [[u16; 2]],
+    a: usize,
+) -> Option<TaskLine>
     requires { (at ≤ length text.now) × (i < 65536) × (a ≤ at) }
     ensures { TaskOf text.now at i arrows.old a arrows.new result }
 {
-    let Next::Field(index, past_index) = next_number(text, at) else {
-        return Task::Misshapen;
-    };
+    let (index, past_index) = number(text, at)?;
     if index != i {
-        return Task::Misshapen;
+        return None;
     }
-    let Next::Field(t, past_time) = next_number(text, past_index) else {
-        return Task::Misshapen;
-    };
-    let Next::Field(count, past_count) = next_number(text, past_time) else {
-        return Task::Misshapen;
-    };
-    let Predecessors::Are(rest) = take_predecessors(text, past_count, i, arrows, a) else {
-        return Task::Misshapen;
-    };
+    let (time, past_time) = number(text, past_index)?;
+    let (count, past_count) = number(text, past_time)?;
+    let rest = take_predecessors(text, past_count, i, arrows, a)?;
     if count != rest.count {
-        return Task::Misshapen;
+        return None;
     }
-    Task::Is(TaskLine {
-        time: t,
+    Some(TaskLine {
+        time,
         below: rest.below,
         arrows: rest.arrows,
         next: rest.next,
@@ -77,14 +69,14 @@ fn take_subtask(
     requires { (at ≤ length text.now) × (j < 256) × (256 ≤ length times.old) × (a ≤ at) }
     ensures { SubtaskOf text.now at j a times.old arrows.old times.new arrows.new result }
 {
-    let Task::Is(line) = task_line(text, at, j + 1, arrows, a) else {
+    let Some(line) = task_line(text, at, j + 1, arrows, a) else {
         return Step::Refused(refuse(22));
     };
     let t = line.time;
     if 65535 < t {
         return Step::Refused(refuse(24));
     }
-    times[j] = narrow(t);
+    times[j] = t as u16;
     Step::Counted(Progress {
         count: line.arrows,
         next: line.next,
@@ -104,8 +96,7 @@ pub fn take_subtasks(
 {
     let mut here = at;
     let mut a: usize = 0;
-    let mut j: usize = 0;
-    while j < n {
+    for j in 0..n {
         match take_subtask(text, here, j, times, arrows, a) {
             Step::Refused(refusal) => {
                 return Step::Refused(refusal);
@@ -115,7 +106,6 @@ pub fn take_subtasks(
                 here = far.next;
             }
         }
-        j += 1;
     }
     Step::Counted(Progress {
         count: a,

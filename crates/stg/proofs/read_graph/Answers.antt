@@ -18,17 +18,11 @@ check_read-requires c =
     let fits : (256 ≤ length c.args.times.now) × (2048 ≤ length c.args.arrows.now) × (length c.args.text.now ≤ 60000) =
     room (length c.args.times.now) (length c.args.arrows.now) c.args.text.now _ c.check_room.ensures c.in-Sound.is in
     let s = sized c.args.text.now c.args.times.now c.args.arrows.now _ _ fits _ c.read_lines.ensures _ c.in-Read.is in
-    (s.low, s.high, omega (arith, c.times-1.given, fits.0), omega (arith, c.arrows-1.given, fits.1))
+    (s.low, s.high, omega arith, omega arith)
 
 pub returns-in-Refused : goal.returns-in-Refused
 returns-in-Refused c =
     no_fit (length c.args.times.now) (length c.args.arrows.now) c.args.text.now _ c.check_room.ensures _ c.in-Refused.is
-
-pub shape_of-times-in-Refused-read_lines : goal.shape_of-times-in-Refused-read_lines
-shape_of-times-in-Refused-read_lines c = c.times-1.given
-
-pub shape_of-arrows-in-Refused-read_lines : goal.shape_of-arrows-in-Refused-read_lines
-shape_of-arrows-in-Refused-read_lines c = c.arrows-1.given
 
 pub returns-in-Refused-read_lines : goal.returns-in-Refused-read_lines
 returns-in-Refused-read_lines c =
@@ -37,12 +31,6 @@ returns-in-Refused-read_lines c =
     room (length c.args.times.now) (length c.args.arrows.now) c.args.text.now _ c.check_room.ensures c.in-Sound.is in
     told_lines c.args.text.now c.args.times.now c.args.arrows.now _ _ fits _ c.read_lines.ensures _ c.in-Refused-read_lines.is
 
-pub shape_of-times-in-Refused-check_read : goal.shape_of-times-in-Refused-check_read
-shape_of-times-in-Refused-check_read c = c.times-1.given
-
-pub shape_of-arrows-in-Refused-check_read : goal.shape_of-arrows-in-Refused-check_read
-shape_of-arrows-in-Refused-check_read c = c.arrows-1.given
-
 pub returns-in-Refused-check_read : goal.returns-in-Refused-check_read
 returns-in-Refused-check_read c =
     -- the rows are long enough, and the text is short enough
@@ -50,12 +38,6 @@ returns-in-Refused-check_read c =
     room (length c.args.times.now) (length c.args.arrows.now) c.args.text.now _ c.check_room.ensures c.in-Sound.is in
     told_check c.args.text.now c.args.times.now c.args.arrows.now _ _ fits _ c.read_lines.ensures _ c.in-Read.is _
     c.check_read.ensures _ c.in-Refused-check_read.is
-
-pub shape_of-times-in-Sound-check_read : goal.shape_of-times-in-Sound-check_read
-shape_of-times-in-Sound-check_read c = c.times-1.given
-
-pub shape_of-arrows-in-Sound-check_read : goal.shape_of-arrows-in-Sound-check_read
-shape_of-arrows-in-Sound-check_read c = c.arrows-1.given
 
 pub returns-in-Sound-check_read : goal.returns-in-Sound-check_read
 returns-in-Sound-check_read c =

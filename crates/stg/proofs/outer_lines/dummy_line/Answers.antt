@@ -12,16 +12,16 @@ returns-in_default c =
 pub returns-then-line-ne0 : goal.returns-then-line-ne0
 returns-then-line-ne0 c =
     λ reading. made
-    (dummy_time c.in-Is.ensures c.if-line-ne0.true
+    (dummy_time c.in-Some.ensures c.if-line-ne0.true
     reading) c.refuse-then-line-ne0.ensures
 
 pub returns-then-not-line : goal.returns-then-not-line
 returns-then-not-line c =
     λ reading. made
-    (dummy_far c.in-Is.ensures
+    (dummy_far c.in-Some.ensures
     (not-true _ c.if-not-line.true) reading) c.refuse-then-not-line.ensures
 
 pub returns : goal.returns
 returns c =
-    dummy_is c.in-Is.ensures c.if-line-ne0.false
+    dummy_is c.in-Some.ensures c.if-line-ne0.false
     (not-false _ c.if-not-line.false)

@@ -1,6 +1,5 @@
 -- `take_subtask`: one subtask's line, its time and arrows put down. Assumes nothing.
-use Prim.Native.Nat.{◌+◌}
-use native.Mathlib.Omega.{arith}
+use Rattle.std.proofs.Common.{refl, ◌+◌, arith}
 use Rattle.stg.proofs.OneLine.{made, tasked}
 use Rattle.stg.proofs.SubtaskLines.{subtask_bad, subtask_long, subtask_is}
 use Rattle.stg.proofs.tasks.take_subtask.Goals as goal
@@ -19,10 +18,7 @@ returns-in_default c =
 pub returns-then-t-gt65535 : goal.returns-then-t-gt65535
 returns-then-t-gt65535 c =
     λ k. made (subtask_long c.args.text.now c.args.at c.args.j
-    (tasked c.args.text.now c.args.at (c.args.j + 1) _ _ _ _ _ c.in-Is.is c.task_line.ensures) c.if-t-gt65535.true k) c.refuse-then-t-gt65535.ensures
-
-pub narrow-requires : goal.narrow-requires
-narrow-requires c = omega arith
+    (tasked c.args.text.now c.args.at (c.args.j + 1) _ _ _ _ _ c.in-Some.is c.task_line.ensures) (omega arith) k) c.refuse-then-t-gt65535.ensures
 
 pub offset_bounds-times-j : goal.offset_bounds-times-j
 offset_bounds-times-j c = omega arith
@@ -33,5 +29,5 @@ bounds-times-j c = omega arith
 pub returns : goal.returns
 returns c =
     subtask_is c.args.text.now c.args.at c.args.j
-    (tasked c.args.text.now c.args.at (c.args.j + 1) _ _ _ _ _ c.in-Is.is c.task_line.ensures) c.args.times.now
-    c.narrow.result (omega arith) c.narrow.ensures
+    (tasked c.args.text.now c.args.at (c.args.j + 1) _ _ _ _ _ c.in-Some.is c.task_line.ensures) c.args.times.now
+    _ (omega arith) refl

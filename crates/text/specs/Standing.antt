@@ -1,9 +1,5 @@
--- What one step along a line says of the line and of the lines after it. Assumes nothing.
-use mathlib.Core.Path.{◌≡◌}
-use mathlib.Core.List.{List, [], ◌∷◌}
-use mathlib.Core.Bool.{true, false}
-use Prim.Native.Nat.{ℕ, ◌≤◌, ◌<◌}
-use lib.ListN.{length, drop}
+-- What one step along a line says of the line and of the lines after it.
+use Rattle.std.specs.Prelude.{◌≡◌, List, [], ◌∷◌, true, false, ℕ, ◌≤◌, ◌<◌, length, drop}
 use Rattle.terms.specs.Texts.{lines, proper, numbers}
 use Rattle.text.specs.Rest.{line, later}
 use Rattle.text.specs.declared.Next.{Next}
