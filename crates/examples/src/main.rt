@@ -5,7 +5,7 @@ ghost use Rattle.std.specs.Prelude.{◌≡◌, length};
 
 use graph::{longest_path, total_work};
 use listplan::draft_plan;
-use plancheck::check_table;
+use plancheck::check_plan;
 use std::io;
 use stg::read_stg;
 use terms::{Amount, Answer, Counts, Entry, Outcome, PlanEnd, Processor, Refusal, Verdict};
@@ -118,9 +118,7 @@ fn checked(
     first: Entry,
     second: Entry,
 ) -> io::Result<()> {
-    let mut table = [first; 256];
-    table[1] = second;
-    print_end(rt, check_table(times, arrows, m, table, 2))
+    print_end(rt, check_plan(times, arrows, m, &[first, second]))
 }
 
 fn checked_alone(
@@ -130,7 +128,7 @@ fn checked_alone(
     m: u32,
     entry: Entry,
 ) -> io::Result<()> {
-    print_end(rt, check_table(times, arrows, m, [entry; 256], 1))
+    print_end(rt, check_plan(times, arrows, m, &[entry]))
 }
 
 // Example 2: every time of G shorter by 1.

@@ -1,2 +1,3 @@
 pub mod TwoRows
 pub mod Tables
+pub mod PlanEnds

@@ -11,7 +11,7 @@ use Rattle.terms.specs.Graphs.{Among}
 use Rattle.terms.specs.Plans.{at, not_placed, processor_of, start_of, end_of, EndsAt}
 use Rattle.terms.specs.ListRule.{put}
 use Rattle.terms.specs.declared.Entry.{Entry}
-use Rattle.forms.specs.Forms.{entries, item_of, finish_of, last_end}
+use Rattle.forms.specs.Forms.{entries, item_of, finish_of, rows_end}
 
 pub entries_length : (procs starts : List ℕ) → length procs ≡ length starts → length (entries procs starts) ≡ length procs
 unfolding entries
@@ -62,23 +62,23 @@ entries_put procs starts j p t e = entries_set procs starts (j - 1) p t e
 -- ---- where the plan ends
 
 module _ (times starts : List ℕ) where
-  end_most : (k j : ℕ) → Among 1 k j → finish_of times starts j ≤ last_end times starts k
-  unfolding last_end
+  end_most : (k j : ℕ) → Among 1 k j → finish_of times starts j ≤ rows_end times starts k
+  unfolding rows_end
   end_most zero j a = absurd (omega (arith, a.low, a.high))
   end_most (suc k) j a = by_cases (ℕ_discrete j (suc k)) (λ e. rw e (omega arith))
       (λ e. omega (arith, end_most k j (record { low = a.low; high = omega (arith, a.high) })))
 
-  end_reached : (k : ℕ) → (j : ℕ) × Among 1 (suc k) j × (finish_of times starts j ≡ last_end times starts (suc k))
-  unfolding last_end
+  end_reached : (k : ℕ) → (j : ℕ) × Among 1 (suc k) j × (finish_of times starts j ≡ rows_end times starts (suc k))
+  unfolding rows_end
   end_reached zero = (1, record { low = omega arith; high = omega arith }, omega arith)
   end_reached (suc k) =
       let r = end_reached k in
-      by_cases (dec_le (last_end times starts (suc k)) (finish_of times starts (suc (suc k))))
+      by_cases (dec_le (rows_end times starts (suc k)) (finish_of times starts (suc (suc k))))
       (λ l. (suc (suc k), record { low = omega arith; high = omega arith }, omega arith))
       (λ l. (r.0, record { low = r.1.low; high = omega (arith, r.1.high) }, omega (arith, r.2)))
 
 pub entries_ends : (times processors starts : List ℕ) → length processors ≡ length starts → 1 ≤ length times
-    → EndsAt times (entries processors starts) (last_end times starts (length times))
+    → EndsAt times (entries processors starts) (rows_end times starts (length times))
 entries_ends times processors starts e l =
     let q : suc (length times - 1) ≡ length times = omega arith in
     let r = rw q at (end_reached times starts (length times - 1)) in record {

@@ -1,7 +1,7 @@
 -- A plan whose processors and starts stand in two rows of numbers, as the cores of the planner hold it; and in a table of 256 entries.
 use Rattle.std.specs.Prelude.{◌≡◌, List, [], ◌∷◌, ℕ, zero, suc, ◌+◌, ◌-◌, ◌≤◌, ◌<◌, min, max, length, get_or}
 use Rattle.terms.specs.Graphs.{time_of}
-use Rattle.terms.specs.Plans.{at, not_placed}
+use Rattle.terms.specs.Plans.{at, not_placed, end_of}
 use Rattle.terms.specs.declared.Entry.{Entry}
 
 -- no instant: no plan runs so long
@@ -23,9 +23,9 @@ unfoldable pub finish_of : List ℕ → List ℕ → ℕ → ℕ
 finish_of times starts j = item_of starts j + time_of times j
 
 -- the largest end of the first k subtasks, 0 where there is none
-unfoldable pub last_end : List ℕ → List ℕ → ℕ → ℕ
-last_end times starts zero = 0
-last_end times starts (suc k) = max (last_end times starts k) (finish_of times starts (suc k))
+unfoldable pub rows_end : List ℕ → List ℕ → ℕ → ℕ
+rows_end times starts zero = 0
+rows_end times starts (suc k) = max (rows_end times starts k) (finish_of times starts (suc k))
 
 -- the table holds the plan as far as it has room, and is blank past it
 pub record IsTable (plan table : List Entry) : Type 0 where
@@ -39,3 +39,8 @@ pub record IsSplit (table : List Entry) (processors starts processors' starts' :
   pub held : (k : ℕ) → k < min 256 (min (length processors) (length starts)) → at (get_or processors' k 0) (get_or starts' k 0) ≡ get_or table k not_placed
   pub past : (k : ℕ) → min 256 (min (length processors) (length starts)) ≤ k
       → (get_or processors' k 0 ≡ get_or processors k 0) × (get_or starts' k 0 ≡ get_or starts k 0)
+
+-- the largest end of the first k subtasks of a plan, 0 where there is none
+unfoldable pub last_end : List ℕ → List Entry → ℕ → ℕ
+last_end times plan zero = 0
+last_end times plan (suc k) = max (last_end times plan k) (end_of times plan (suc k))

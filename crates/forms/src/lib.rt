@@ -4,7 +4,7 @@
 
 ghost use Rattle.std.specs.Prelude.{◌≡◌, ◌+◌, min, max, length, replicate};
 ghost use Rattle.terms.specs.Plans.{not_placed};
-ghost use Rattle.forms.specs.Forms.{entries, last_end, IsTable, IsSplit};
+ghost use Rattle.forms.specs.Forms.{entries, rows_end, last_end, IsTable, IsSplit};
 
 use inputs::time_of;
 use terms::{Entry, Processor, Subtask};
@@ -75,8 +75,8 @@ fn later(a: u64, b: u64) -> u64
 }
 
 // The largest of start + time, 0 for rows with nothing in them.
-pub fn last_end(times: &[u16], starts: &[u32]) -> u64
-    ensures { result ≡ last_end times.now starts.now (min (length times.now) (length starts.now)) }
+pub fn rows_end(times: &[u16], starts: &[u32]) -> u64
+    ensures { result ≡ rows_end times.now starts.now (min (length times.now) (length starts.now)) }
 {
     let mut end: u64 = 0;
     let mut i: usize = 0;
@@ -87,6 +87,17 @@ pub fn last_end(times: &[u16], starts: &[u32]) -> u64
         let time = time_of(times, Subtask(i + 1));
         end = later(end, end_of(starts[i], time));
         i += 1;
+    }
+    end
+}
+
+// Where a plan ends: the largest start + time, 0 for rows with nothing in them.
+pub fn last_end(times: &[u16], plan: &[Entry]) -> u64
+    ensures { result ≡ last_end times.now plan.now (min (length times.now) (length plan.now)) }
+{
+    let mut end: u64 = 0;
+    for (time, entry) in times.iter().zip(plan) {
+        end = end.max(u64::from(entry.start) + u64::from(*time));
     }
     end
 }

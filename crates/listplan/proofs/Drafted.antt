@@ -21,7 +21,7 @@ use Rattle.theory.proofs.Accepted.{accepted_graph}
 use Rattle.theory.proofs.Work.{total_small}
 use Rattle.theory.proofs.ListRule.{by_rule, ends_early}
 use Rattle.theory.proofs.ListPlans.{list_plan_accepted}
-use Rattle.forms.specs.Forms.{entries, last_end, IsTable}
+use Rattle.forms.specs.Forms.{entries, rows_end, IsTable}
 use Rattle.forms.proofs.TwoRows.{entries_length, entries_ends}
 use Rattle.forms.proofs.Tables.{table_front}
 use Rattle.listplan.specs.Making.{Sizes}
@@ -35,13 +35,13 @@ module _ {times : List ℕ} {arrows : List (List ℕ)} {M : ℕ} {order P S : Li
   same_length : length P ≡ length S
   same_length = z.long_processors ∙ sym z.long_starts
 
-  ends : EndsAt times (entries P S) (last_end times S (length times))
+  ends : EndsAt times (entries P S) (rows_end times S (length times))
   ends = entries_ends times P S same_length g.count.low
 
   upto : min (length times) (length S) ≡ length times
   upto = omega (arith, z.long_starts)
 
-  pub end_small : {E : ℕ} → E ≡ last_end times S (min (length times) (length S)) → E ≤ 16776960
+  pub end_small : {E : ℕ} → E ≡ rows_end times S (min (length times) (length S)) → E ≤ 16776960
   end_small e =
       let r = ends.reached in
       let so_far = by_rule times arrows M g order o plan.made in
@@ -49,16 +49,16 @@ module _ {times : List ℕ} {arrows : List (List ℕ)} {M : ℕ} {order P S : Li
       omega (arith, rw upto at e, q, r.2, total_small g bits)
 
   -- the plan check of it replies its end
-  checked : IsChecked times arrows M (entries P S) (plan_end.Ends (last_end times S (length times)))
+  checked : IsChecked times arrows M (entries P S) (plan_end.Ends (rows_end times S (length times)))
   unfolding IsChecked
   checked = (list_plan_accepted times arrows M order (entries P S) (accepted_graph times arrows g) bits m o plan, ends)
 
-  pub planned : {T : List Entry} {n E : ℕ} → IsTable (entries P S) T → n ≡ length times → E ≡ last_end times S (min (length times) (length S))
+  pub planned : {T : List Entry} {n E : ℕ} → IsTable (entries P S) T → n ≡ length times → E ≡ rows_end times S (min (length times) (length S))
       → IsPlanned times arrows M order (record { reply = plan_end.Ends E; entries = T; n = n })
   planned {T} {n} {E} t c e =
       let q : length (entries P S) ≡ n = entries_length P S same_length ∙ z.long_processors ∙ sym c in
       let front : take n T ≡ entries P S = rw q at (table_front (omega (arith, g.count.high)) t) in
-      let end : E ≡ last_end times S (length times) = rw upto at e in
+      let end : E ≡ rows_end times S (length times) = rw upto at e in
       record { end = E; reply = refl; holds = record { count = c; plan = rw front plan; checked = rw (front, end) checked }; table = rw front t }
 
 -- ---- the refusals

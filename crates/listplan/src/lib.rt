@@ -15,7 +15,7 @@ ghost use Rattle.listplan.specs.Drafts.{IsRefused, IsPlanned, IsDraft};
 
 use crate::order::is_order;
 use crate::rule::make_plan;
-use forms::{blank, join, last_end};
+use forms::{blank, join, rows_end};
 use graph::check_on;
 use inputs::usize_from_u32;
 use terms::{Check, Entry, PlanEnd, Refusal, refuse};
@@ -53,7 +53,7 @@ fn planned(
     ensures { IsPlanned times.now arrows.now m order.now result }
 {
     make_plan(times, arrows, m, order, processors, starts);
-    let end = last_end(times, starts) as u32;
+    let end = rows_end(times, starts) as u32;
     Draft {
         reply: PlanEnd::Ends(end),
         entries: join(processors, starts),

@@ -1,27 +1,17 @@
--- What the cores say of a table holds of the row that it was copied from or is written to. Assumes nothing.
+-- What the core says of a table holds of the row to which it is written. Assumes nothing.
 use mathlib.Core.Path.{◌≡◌, refl, sym, ap, ◌∙◌}
 use mathlib.Core.List.{List, ◌++◌}
 use Prim.Native.Nat.{ℕ, ◌≤◌}
 use native.Mathlib.Omega.{arith}
 use lib.ListN.{length, take, drop}
 use lib.Seq.{take_at, drop_at, take-length, length-take-le}
-use Rattle.terms.specs.Replies.{IsListed, IsChecked}
+use Rattle.terms.specs.Replies.{IsListed}
 use Rattle.terms.specs.declared.Entry.{Entry}
 use Rattle.terms.specs.declared.PlanEnd.{PlanEnd}
 use Rattle.terms.specs.declared.PlanEnd.TheVariants.{Ends, Refused}
 use Rattle.theory.proofs.Accepted.{sound_list}
-use Rattle.plancheck.specs.Tables.{ChecksTable}
 use Rattle.listplan.specs.Drafts.{IsDrafted}
 use Rattle.plans.specs.Copies.{over}
-
--- a table whose start is the whole row is checked as the row is
-pub checked : (times : List ℕ) (arrows : List (List ℕ)) (M : ℕ) (plan table : List Entry) (k : ℕ) (r : PlanEnd) → (length plan ≤ 256 → k ≡ length plan)
-    → ChecksTable times arrows M (over k plan table) (length plan) r → IsChecked times arrows M plan r
-unfolding ChecksTable
-checked times arrows M plan table k r all c = c plan refl (λ l. rw (all l) (sym (whole plan table)))
-  where
-    whole : (p t : List Entry) → take (length p) (take (length p) p ++ drop (length p) t) ≡ p
-    whole p t = take_at (take (length p) p) (drop (length p) t) (length p) (ap length (take-length p)) ∙ take-length p
 
 module _ (times : List ℕ) (arrows : List (List ℕ)) (M : ℕ) (order : List ℕ) where
   -- a draft fits its row and its table

@@ -2,7 +2,7 @@
 // what was written is held to the same output.
 use inputs::order_by_number;
 use listplan::draft_plan;
-use plancheck::check_table;
+use plancheck::check_plan;
 use stg::{read_stg, write_stg};
 use terms::{Counts, Outcome, PlanEnd, Refusal, Verdict, Written};
 use verdict::judge;
@@ -102,7 +102,7 @@ fn plan_agrees(times: &[u16], arrows: &[[u16; 2]], line: Line, order: &[u16]) ->
             if end != line.end {
                 return false;
             }
-            match check_table(times, arrows, line.m, entries, n) {
+            match check_plan(times, arrows, line.m, &entries[..n]) {
                 PlanEnd::Refused(_) => false,
                 PlanEnd::Ends(checked) => checked == end,
             }

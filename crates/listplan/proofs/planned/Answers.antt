@@ -14,15 +14,15 @@ make_plan-requires c =
     λ j s. omega (arith, c.shared_slice_known-1.given (j - 1)) in
     record { sound_graph = c.requires.sound_graph.0; among = (c.requires.sound_graph.1, c.requires.sound_graph.2, total_small c.requires.sound_graph.0 bits); processors_value = c.requires.processors_value }
 
-pub last_end-end-requires : goal.last_end-end-requires
-last_end-end-requires c = tt
+pub rows_end-end-requires : goal.rows_end-end-requires
+rows_end-end-requires c = tt
 
 pub overflow_cast-end : goal.overflow_cast-end
 unfolding time_of
 overflow_cast-end c =
     let bits : In16Bits c.args.times.now =
     λ j s. omega (arith, c.shared_slice_known-1.given (j - 1)) in
-    omega (arith, end_small bits c.requires.sound_graph.0 c.requires.sound_graph.1 c.requires.sound_graph.2 c.make_plan.ensures.list_plan c.make_plan.ensures.sizes c.last_end-end.ensures)
+    omega (arith, end_small bits c.requires.sound_graph.0 c.requires.sound_graph.1 c.requires.sound_graph.2 c.make_plan.ensures.list_plan c.make_plan.ensures.sizes c.rows_end-end.ensures)
 
 pub join-requires : goal.join-requires
 join-requires c = tt
@@ -38,4 +38,4 @@ unfolding time_of
 returns c =
     let bits : In16Bits c.args.times.now =
     λ j s. omega (arith, c.shared_slice_known-1.given (j - 1)) in
-    planned bits c.requires.sound_graph.0 c.requires.sound_graph.1 c.requires.sound_graph.2 c.make_plan.ensures.list_plan c.make_plan.ensures.sizes c.join.ensures refl c.last_end-end.ensures
+    planned bits c.requires.sound_graph.0 c.requires.sound_graph.1 c.requires.sound_graph.2 c.make_plan.ensures.list_plan c.make_plan.ensures.sizes c.join.ensures refl c.rows_end-end.ensures
