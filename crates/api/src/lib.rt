@@ -10,9 +10,7 @@ ghost use Rattle.terms.specs.Replies.{IsTotalWork, IsLongestPath, IsAnswer, IsLi
 ghost use Rattle.terms.specs.Readings.{IsRead};
 ghost use Rattle.api.specs.Flats.{Flattens, flat_amount, flat_measure, flat_answer, flat_end, flat_counts, flat_written};
 
-use crate::flats::{
-    flatten_amount, flatten_answer, flatten_counts, flatten_end, flatten_measure, flatten_written,
-};
+use crate::flats::{flatten_counts, flatten_written};
 use graph::{longest_path, total_work};
 use joins::{end_to_end, nest_figures, side_by_side};
 use plans::{check_plan, list_plan};
@@ -89,7 +87,7 @@ pub struct FlatWritten {
 pub extern "C" fn zul_total_work(times: &[u16], arrows: &[[u16; 2]]) -> FlatAmount
     ensures { Flattens (IsTotalWork times.now arrows.now) flat_amount result }
 {
-    flatten_amount(total_work(times, arrows))
+    FlatAmount::from(total_work(times, arrows))
 }
 
 // P.
@@ -97,7 +95,7 @@ pub extern "C" fn zul_total_work(times: &[u16], arrows: &[[u16; 2]]) -> FlatAmou
 pub extern "C" fn zul_longest_path(times: &[u16], arrows: &[[u16; 2]]) -> FlatAmount
     ensures { Flattens (IsLongestPath times.now arrows.now) flat_amount result }
 {
-    flatten_amount(longest_path(times, arrows))
+    FlatAmount::from(longest_path(times, arrows))
 }
 
 // The answer to a deadline question, on m processors with deadline d.
@@ -105,7 +103,7 @@ pub extern "C" fn zul_longest_path(times: &[u16], arrows: &[[u16; 2]]) -> FlatAm
 pub extern "C" fn zul_judge(times: &[u16], arrows: &[[u16; 2]], m: u32, d: u32) -> FlatAnswer
     ensures { Flattens (IsAnswer times.now arrows.now m d) flat_answer result }
 {
-    flatten_answer(judge(times, arrows, m, d))
+    FlatAnswer::from(judge(times, arrows, m, d))
 }
 
 // Where the plan ends, or why it is refused.
@@ -118,7 +116,7 @@ pub extern "C" fn zul_check_plan(
 ) -> FlatEnd
     ensures { Flattens (IsChecked times.now arrows.now m plan.now) flat_end result }
 {
-    flatten_end(check_plan(times, arrows, m, plan))
+    FlatEnd::from(check_plan(times, arrows, m, plan))
 }
 
 // Writes the list plan to the row, and answers where it ends; or leaves the row as it was, and answers why.
@@ -132,7 +130,7 @@ pub extern "C" fn zul_list_plan(
 ) -> FlatEnd
     ensures { Flattens (IsListed times.now arrows.now m order.now plan.old plan.new) flat_end result }
 {
-    flatten_end(list_plan(times, arrows, m, order, plan))
+    FlatEnd::from(list_plan(times, arrows, m, order, plan))
 }
 
 // Reads an STG text: the counts, and the graph in the two rows, with zeros past it; or a refusal, and rows of zeros.
@@ -208,5 +206,5 @@ pub extern "C" fn zul_side_by_side(
 pub extern "C" fn zul_nest(row: &[[u32; 3]]) -> FlatMeasure
     ensures { Flattens (IsNestMeasure row.now) flat_measure result }
 {
-    flatten_measure(nest_figures(row))
+    FlatMeasure::from(nest_figures(row))
 }

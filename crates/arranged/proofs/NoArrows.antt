@@ -3,7 +3,7 @@
 use mathlib.Core.Path.{◌≡◌, refl, sym, ap, ap₂, ◌∙◌}
 use mathlib.Core.Bool.{Bool, true, false, cond}
 use mathlib.Core.List.{List, [], ◌∷◌, ◌++◌, append-nil}
-use Prim.Native.Nat.{ℕ, zero, suc, ◌+◌, ◌≤◌, ◌<◌, min}
+use Prim.Native.Nat.{ℕ, zero, suc, ◌+◌, ◌-◌, ◌≤◌, ◌<◌, min}
 use native.Mathlib.Omega.{arith}
 use lib.Dec.{eqb}
 use lib.ListN.{length, get_or, set, take, drop, replicate, length-set, length-append, length-replicate, get_or-replicate}
@@ -16,8 +16,10 @@ use Rattle.theory.proofs.Stores.{read_set}
 use Rattle.theory.proofs.Ascending.{has_none, has_some, passing_has, has_passing, passing_same}
 use Rattle.theory.proofs.TextLengths.{passing_few}
 use Rattle.theory.proofs.SortedArrows.{has_precedes, precedes_has}
-use Rattle.arranged.specs.Sides.{end_of}
-use Rattle.arranged.specs.Free.{is_free, free_of, Marks, IsFront}
+use Rattle.arranged.specs.Sides.{end, end_of}
+use Rattle.arranged.specs.declared.sides.Side.{Side}
+use Rattle.arranged.specs.declared.sides.Side.TheVariants.{From, To}
+use Rattle.arranged.specs.Free.{is_free, free_of, free_from, free_to, Marks, IsFront}
 
 -- ---- one arrow more
 
@@ -25,29 +27,28 @@ never : (t : Bool) → cond t false false ≡ false
 never true = refl
 never false = refl
 
-module _ (side : ℕ) (x : List ℕ) (v : ℕ) where
-  free_met : (arrows : List (List ℕ)) → get_or x side 0 ≡ v → is_free side (arrows ++ x ∷ []) v ≡ false
+module _ (side : Side) (x : List ℕ) (v : ℕ) where
+  free_met : (arrows : List (List ℕ)) → end side x ≡ v → is_free side (arrows ++ x ∷ []) v ≡ false
   unfolding is_free
-  free_met [] e = rw (eq-eqb (get_or x side 0) v e)
-  free_met (y ∷ arrows) e = ap (λ (t : Bool). cond (eqb (get_or y side 0) v) false t) (free_met arrows e) ∙ never (eqb (get_or y side 0) v)
+  free_met [] e = rw (eq-eqb (end side x) v e)
+  free_met (y ∷ arrows) e = ap (λ (t : Bool). cond (eqb (end side y) v) false t) (free_met arrows e) ∙ never (eqb (end side y) v)
 
-  free_missed : (arrows : List (List ℕ)) → ¬ (get_or x side 0 ≡ v) → is_free side (arrows ++ x ∷ []) v ≡ is_free side arrows v
+  free_missed : (arrows : List (List ℕ)) → ¬ (end side x ≡ v) → is_free side (arrows ++ x ∷ []) v ≡ is_free side arrows v
   unfolding is_free
-  free_missed [] n = rw (ne_eqb (get_or x side 0) v n)
-  free_missed (y ∷ arrows) n = ap (λ (t : Bool). cond (eqb (get_or y side 0) v) false t) (free_missed arrows n)
+  free_missed [] n = rw (ne_eqb (end side x) v n)
+  free_missed (y ∷ arrows) n = ap (λ (t : Bool). cond (eqb (end side y) v) false t) (free_missed arrows n)
 
 -- ---- the marks, arrow by arrow
 
-pub marks_none : (side : ℕ) (arrows : List (List ℕ)) → Marks side arrows 0 (replicate 258 1)
+pub marks_none : (side : Side) (arrows : List (List ℕ)) → Marks side arrows 0 (replicate 258 1)
 unfolding is_free
 marks_none side arrows = record {
   long = length-replicate {A = ℕ} 258 1;
   mark = λ v l. get_or-replicate {A = ℕ} 258 v 1 0 (omega (arith, l));
 }
 
-pub marks_more : {side : ℕ} {arrows : List (List ℕ)} {k : ℕ} {marks : List ℕ} (end at : ℕ) → k < length arrows → end ≡ end_of side arrows k → at ≡ min end 257
+pub marks_more : {side : Side} {arrows : List (List ℕ)} {k : ℕ} {marks : List ℕ} (end at : ℕ) → k < length arrows → end ≡ end_of side arrows k → at ≡ min end 257
     → Marks side arrows k marks → Marks side arrows (k + 1) (set marks at 0)
-unfolding end_of
 marks_more {side} {arrows} {k} {marks} end at l e m marked = record {
   long = length-set marks at 0 ∙ marked.long;
   mark = λ v b. read_set (λ (y : ℕ). y ≡ cond (is_free side (take (k + 1) arrows) v) 1 0) marks at 0 v (omega (arith, m, marked.long))
@@ -66,14 +67,10 @@ marks_more {side} {arrows} {k} {marks} end at l e m marked = record {
     there : (v : ℕ) → v < 257 → end ≡ v → v ≡ at
     there v b q = omega (arith, b, q, m)
 
-pub marks_all : {side : ℕ} {arrows : List (List ℕ)} {k : ℕ} {marks : List ℕ} → k ≤ length arrows → length arrows ≤ k → Marks side arrows k marks
-    → Marks side arrows (length arrows) marks
-marks_all {arrows = arrows} {k} l h marked = let e : length arrows ≡ k = omega arith in rw e marked
-
 -- ---- those of 1..n that are marked, one by one
 
 -- those of 1..j stand in front
-pub record FrontTo (side : ℕ) (arrows : List (List ℕ)) (before : List ℕ) (most : ℕ) (list : List ℕ) (count j : ℕ) : Type 0 where
+pub record FrontTo (side : Side) (arrows : List (List ℕ)) (before : List ℕ) (most : ℕ) (list : List ℕ) (count j : ℕ) : Type 0 where
   pub front : list ≡ passing (is_free side arrows) j ++ drop count before
   pub counted : count ≡ length (passing (is_free side arrows) j)
   pub fewer : count ≤ j
@@ -81,7 +78,7 @@ pub record FrontTo (side : ℕ) (arrows : List (List ℕ)) (before : List ℕ) (
   pub few : most ≤ 256
   pub long : length list ≡ 256
 
-pub front_none : {side : ℕ} {arrows : List (List ℕ)} {before : List ℕ} (n most : ℕ) → most ≡ min n 256 → length before ≡ 256
+pub front_none : {side : Side} {arrows : List (List ℕ)} {before : List ℕ} (n most : ℕ) → most ≡ min n 256 → length before ≡ 256
     → FrontTo side arrows before most before 0 0
 unfolding passing
 front_none n most e long = record { front = refl; counted = refl; fewer = omega arith; inside = omega arith; few = omega (arith, e); long = long }
@@ -116,8 +113,8 @@ one_or_none : (t : Bool) → cond t 1 0 ≤ 1
 one_or_none true = omega arith
 one_or_none false = omega arith
 
-module _ {side : ℕ} {arrows : List (List ℕ)} {before : List ℕ} {most : ℕ} where
-  pub front_more : {marks list : List ℕ} {count j : ℕ} (mark wide put : ℕ) → length before ≡ 256 → Marks side arrows (length arrows) marks
+module _ {side : Side} {arrows : List (List ℕ)} {before : List ℕ} {most : ℕ} where
+  front_more : {marks list : List ℕ} {count j : ℕ} (mark wide put : ℕ) → length before ≡ 256 → Marks side arrows (length arrows) marks
       → mark ≡ get_or marks (j + 1) 0 → wide ≡ mark → put ≡ cond (eqb mark 0) (get_or list count 0) (j + 1)
       → j < most → FrontTo side arrows before most list count j → FrontTo side arrows before most (set list count put) (count + wide) (j + 1)
   front_more {marks} {list} {count} {j} mark wide put was marked e w p l far =
@@ -140,6 +137,13 @@ module _ {side : ℕ} {arrows : List (List ℕ)} {before : List ℕ} {most : ℕ
         long = length-set list count put ∙ far.long;
       }
 
+  pub front_next : {marks list : List ℕ} {count j : ℕ} (mark wide put : ℕ) → length before ≡ 256 → Marks side arrows (length arrows) marks
+      → mark ≡ get_or marks j 0 → wide ≡ mark → put ≡ cond (eqb mark 0) (get_or list count 0) j
+      → 1 ≤ j → j ≤ most → FrontTo side arrows before most list count (j - 1) → FrontTo side arrows before most (set list count put) (count + wide) j
+  front_next {j = j} mark wide put was marked e w p low l far =
+      let s : j - 1 + 1 ≡ j = omega (arith, low) in
+      rw s at (front_more mark wide put was marked (rw s e) w (rw s p) (omega (arith, low, l)) far)
+
   pub front_all : {list : List ℕ} {count j : ℕ} → most ≤ j → FrontTo side arrows before most list count j → IsFront (free_of side arrows most) before list count
   unfolding free_of
   front_all {list} {count} {j} l far =
@@ -157,28 +161,26 @@ one_front {wanted} {before} a b =
 -- ---- in an accepted graph
 
 -- what it says of a number that it is free, or not
-data Freedom (side : ℕ) (arrows : List (List ℕ)) (v : ℕ) : Bool → Type 0 where
+data Freedom (side : Side) (arrows : List (List ℕ)) (v : ℕ) : Bool → Type 0 where
   met : (place : ℕ) → place < length arrows → end_of side arrows place ≡ v → Freedom side arrows v false
   free : ((place : ℕ) → place < length arrows → ¬ (end_of side arrows place ≡ v)) → Freedom side arrows v true
 
-module _ (side v : ℕ) where
-  none_further : (x : List ℕ) (arrows : List (List ℕ)) → ¬ (get_or x side 0 ≡ v) → ((place : ℕ) → place < length arrows → ¬ (end_of side arrows place ≡ v))
+module _ (side : Side) (v : ℕ) where
+  none_further : (x : List ℕ) (arrows : List (List ℕ)) → ¬ (end side x ≡ v) → ((place : ℕ) → place < length arrows → ¬ (end_of side arrows place ≡ v))
       → (place : ℕ) → place < length (x ∷ arrows) → ¬ (end_of side (x ∷ arrows) place ≡ v)
-  unfolding end_of
   none_further x arrows n none zero l e = n e
   none_further x arrows n none (suc place) l e = none place (omega (arith, l)) e
 
-  further : (x : List ℕ) (arrows : List (List ℕ)) (t s : Bool) → eqb (get_or x side 0) v ≡ t → Freedom side arrows v s
+  further : (x : List ℕ) (arrows : List (List ℕ)) (t s : Bool) → eqb (end side x) v ≡ t → Freedom side arrows v s
       → Freedom side (x ∷ arrows) v (cond t false s)
-  unfolding end_of
-  further x arrows true s e f = met 0 (omega arith) (eqb-true (get_or x side 0) v e)
+  further x arrows true s e f = met 0 (omega arith) (eqb-true (end side x) v e)
   further x arrows false false e (met place l q) = met (suc place) (omega (arith, l)) q
-  further x arrows false true e (free none) = free (none_further x arrows (eqb-false (get_or x side 0) v e) none)
+  further x arrows false true e (free none) = free (none_further x arrows (eqb-false (end side x) v e) none)
 
   freedom : (arrows : List (List ℕ)) → Freedom side arrows v (is_free side arrows v)
   unfolding is_free
   freedom [] = free (λ place l e. omega (arith, l))
-  freedom (x ∷ arrows) = further x arrows (eqb (get_or x side 0) v) (is_free side arrows v) refl (freedom arrows)
+  freedom (x ∷ arrows) = further x arrows (eqb (end side x) v) (is_free side arrows v) refl (freedom arrows)
 
 -- the first k of a row are those that are wanted
 pub record Leads (wanted list : List ℕ) (k : ℕ) : Type 0 where
@@ -190,8 +192,8 @@ module _ {times : List ℕ} {arrows : List (List ℕ)} (g : SoundGraph times arr
   abbrev n : ℕ
   n = length times
 
-  last_free : (j : ℕ) (t : Bool) → Freedom 0 arrows j t → t ≡ is_none (successors_of n arrows j)
-  unfolding end_of from_of
+  last_free : (j : ℕ) (t : Bool) → Freedom From arrows j t → t ≡ is_none (successors_of n arrows j)
+  unfolding end from_of
   last_free j t (met place l e) =
       let to = to_of arrows place in
       let here = precedes_has arrows j to (record { place = place; inside = l; begins = e; arrives = refl }) in
@@ -199,8 +201,8 @@ module _ {times : List ℕ} {arrows : List (List ℕ)} (g : SoundGraph times arr
   last_free j t (free none) = sym (has_none (successors_of n arrows j)
       (λ i h. let w = has_precedes arrows j i (passing_has (λ i. has_arrow arrows j i) n i h).1 in none w.place w.inside w.begins))
 
-  first_free : (j : ℕ) (t : Bool) → Freedom 1 arrows j t → t ≡ is_none (predecessors_of n arrows j)
-  unfolding end_of to_of
+  first_free : (j : ℕ) (t : Bool) → Freedom To arrows j t → t ≡ is_none (predecessors_of n arrows j)
+  unfolding end to_of
   first_free j t (met place l e) =
       let from = from_of arrows place in
       let here = precedes_has arrows from j (record { place = place; inside = l; begins = refl; arrives = e }) in
@@ -208,15 +210,15 @@ module _ {times : List ℕ} {arrows : List (List ℕ)} (g : SoundGraph times arr
   first_free j t (free none) = sym (has_none (predecessors_of n arrows j)
       (λ i h. let w = has_precedes arrows i j (passing_has (λ i. has_arrow arrows i j) n i h).1 in none w.place w.inside w.arrives))
 
-  pub free_lasts : free_of 0 arrows n ≡ lasts_of n arrows
+  pub free_lasts : free_of From arrows n ≡ lasts_of n arrows
   unfolding free_of lasts_of
-  free_lasts = passing_same (is_free 0 arrows) (λ j. is_none (successors_of n arrows j)) n (λ j _. last_free j (is_free 0 arrows j) (freedom 0 j arrows))
+  free_lasts = passing_same (is_free From arrows) (λ j. is_none (successors_of n arrows j)) n (λ j _. last_free j (is_free From arrows j) (freedom From j arrows))
 
-  pub free_firsts : free_of 1 arrows n ≡ firsts_of n arrows
+  pub free_firsts : free_of To arrows n ≡ firsts_of n arrows
   unfolding free_of firsts_of
-  free_firsts = passing_same (is_free 1 arrows) (λ j. is_none (predecessors_of n arrows j)) n (λ j _. first_free j (is_free 1 arrows j) (freedom 1 j arrows))
+  free_firsts = passing_same (is_free To arrows) (λ j. is_none (predecessors_of n arrows j)) n (λ j _. first_free j (is_free To arrows j) (freedom To j arrows))
 
-  front_free : (side : ℕ) {before after : List ℕ} {k : ℕ} → IsFront (free_of side arrows (min n 256)) before after k → Leads (free_of side arrows n) after k
+  front_free : (side : Side) {before after : List ℕ} {k : ℕ} → IsFront (free_of side arrows (min n 256)) before after k → Leads (free_of side arrows n) after k
   unfolding free_of
   front_free side {before} {after} {k} front =
       let m = min n 256 in
@@ -228,8 +230,8 @@ module _ {times : List ℕ} {arrows : List (List ℕ)} (g : SoundGraph times arr
         few = omega (arith, front.count, passing_few (is_free side arrows) m);
       }
 
-  pub front_lasts : {before after : List ℕ} {k : ℕ} → IsFront (free_of 0 arrows (min n 256)) before after k → Leads (lasts_of n arrows) after k
-  front_lasts front = rw (← free_lasts) (front_free 0 front)
+  pub front_lasts : {before after : List ℕ} {k : ℕ} → IsFront (free_from arrows (min n 256)) before after k → Leads (lasts_of n arrows) after k
+  front_lasts front = rw (← free_lasts) (front_free From front)
 
-  pub front_firsts : {before after : List ℕ} {k : ℕ} → IsFront (free_of 1 arrows (min n 256)) before after k → Leads (firsts_of n arrows) after k
-  front_firsts front = rw (← free_firsts) (front_free 1 front)
+  pub front_firsts : {before after : List ℕ} {k : ℕ} → IsFront (free_to arrows (min n 256)) before after k → Leads (firsts_of n arrows) after k
+  front_firsts front = rw (← free_firsts) (front_free To front)

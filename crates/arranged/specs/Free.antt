@@ -1,18 +1,28 @@
 -- Those of 1..n that no arrow has at one side, and a lent row with them in front.
 use Rattle.std.specs.Prelude.{◌≡◌, Bool, true, false, cond, List, [], ◌∷◌, ◌++◌, ℕ, ◌<◌, eqb, length, get_or, drop, take}
+use Rattle.arranged.specs.declared.sides.Side.{Side}
+use Rattle.arranged.specs.declared.sides.Side.TheVariants.{From, To}
+use Rattle.arranged.specs.Sides.{end}
 use Rattle.terms.specs.Arrangements.{passing}
 
 -- no arrow of the row has v at this side
-unfoldable pub is_free : ℕ → List (List ℕ) → ℕ → Bool
+unfoldable pub is_free : Side → List (List ℕ) → ℕ → Bool
 is_free side [] v = true
-is_free side (arrow ∷ arrows) v = cond (eqb (get_or arrow side 0) v) false (is_free side arrows v)
+is_free side (arrow ∷ arrows) v = cond (eqb (end side arrow) v) false (is_free side arrows v)
 
--- those of 1..n of which this is so, ascending: by side 0 those without successors, by side 1 those without predecessors
-unfoldable pub free_of : ℕ → List (List ℕ) → ℕ → List ℕ
+-- those of 1..n of which this is so, ascending: by where arrows come from those without successors, by where they go to those without predecessors
+unfoldable pub free_of : Side → List (List ℕ) → ℕ → List ℕ
 free_of side arrows n = passing (is_free side arrows) n
 
+-- those of 1..n that no arrow comes from, and those that no arrow goes to
+abbrev pub free_from : List (List ℕ) → ℕ → List ℕ
+free_from arrows n = free_of From arrows n
+
+abbrev pub free_to : List (List ℕ) → ℕ → List ℕ
+free_to arrows n = free_of To arrows n
+
 -- a mark for each number up to 256: 1 where none of the first k arrows has it at this side, else 0
-pub record Marks (side : ℕ) (arrows : List (List ℕ)) (k : ℕ) (marks : List ℕ) : Type 0 where
+pub record Marks (side : Side) (arrows : List (List ℕ)) (k : ℕ) (marks : List ℕ) : Type 0 where
   pub long : length marks ≡ 258
   pub mark : (v : ℕ) → v < 257 → get_or marks v 0 ≡ cond (is_free side (take k arrows) v) 1 0
 

@@ -8,25 +8,17 @@ use listplan::draft_plan;
 use std::io;
 use std::io::Read;
 use stg::read_stg;
-use terms::{Counts, Figures, PlanEnd, Refusal};
+use terms::{Figures, Refusal};
 use verdict::judge;
 
-// A number, and the character after it.
-fn print(rt: &impl Print, number: u32, after: char) -> io::Result<()> {
-    print!(rt; "{number}{after}")
-}
-
 fn print_refusal(rt: &impl Print, refusal: Refusal) -> io::Result<()> {
-    print!(rt; "refused,")?;
-    print(rt, refusal.number as u32, '\n')
+    let number = refusal.number();
+    print!(rt; "refused,{number}\n")
 }
 
 fn print_line(rt: &impl Print, m: u32, figures: Figures, end: u32) -> io::Result<()> {
-    print(rt, m, ',')?;
-    print(rt, figures.c, ',')?;
-    print(rt, figures.p, ',')?;
-    print(rt, figures.s, ',')?;
-    print(rt, end, '\n')
+    let Figures { c, p, s, .. } = figures;
+    print!(rt; "{m},{c},{p},{s},{end}\n")
 }
 
 // One line of the table. An accepted graph is refused by neither call.
@@ -39,10 +31,9 @@ fn report(
 ) -> io::Result<()> {
     let answer = judge(times, arrows, m, 1);
     let draft = draft_plan(times, arrows, m, order, times.len());
-    let reply = draft.reply;
-    match reply {
-        PlanEnd::Refused(refusal) => print_refusal(rt, refusal),
-        PlanEnd::Ends(end) => print_line(rt, m, answer.figures, end),
+    match draft.reply {
+        Ok(end) => print_line(rt, m, answer.figures, end),
+        Err(refusal) => print_refusal(rt, refusal),
     }
 }
 
@@ -54,10 +45,8 @@ fn table(rt: &impl Print, times: &[u16], arrows: &[[u16; 2]]) -> io::Result<()> 
     }
     let order: &[u16] = &all[..n];
     print!(rt; "M,C,P,S,end\n")?;
-    let mut m: u32 = 1;
-    while m <= 4 {
+    for m in 1..=4 {
         report(rt, times, arrows, m, order)?;
-        m += 1;
     }
     Ok(())
 }
@@ -67,12 +56,8 @@ fn run(rt: &impl Print, text: &[u8]) -> io::Result<()> {
     let mut times = [0u16; 256];
     let mut arrows = [[0u16; 2]; 2048];
     match read_stg(text, &mut times, &mut arrows) {
-        Counts::Refused(refusal) => print_refusal(rt, refusal),
-        Counts::Read(size) => {
-            let subtasks = size.subtasks;
-            let count = size.arrows;
-            table(rt, &times[..subtasks], &arrows[..count])
-        }
+        Ok(size) => table(rt, &times[..size.subtasks], &arrows[..size.arrows]),
+        Err(refusal) => print_refusal(rt, refusal),
     }
 }
 

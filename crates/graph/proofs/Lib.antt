@@ -1,6 +1,7 @@
 -- the chains of arrows
 pub mod Chained
 -- scans
+pub mod FirstArrows
 pub mod WrongEnds
 pub mod RepeatedArrows
 -- the order

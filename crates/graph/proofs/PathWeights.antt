@@ -1,21 +1,35 @@
 -- The weights of the paths, found in an order with predecessors first, give the longest path. Assumes nothing.
 use mathlib.Core.Path.{◌≡◌, refl, sym, ap, ◌∙◌}
 use mathlib.Core.Logic.{◌⊎◌, inl, inr, ⊎_elim, by_cases}
-use mathlib.Core.List.{List}
-use Prim.Native.Nat.{ℕ, ◌+◌, ◌-◌, ◌*◌, ◌≤◌, ◌<◌, max}
+use mathlib.Core.List.{List, [], ◌∷◌}
+use Prim.Native.Nat.{ℕ, suc, ◌+◌, ◌-◌, ◌*◌, ◌≤◌, ◌<◌, max}
 use native.Mathlib.Omega.{arith}
 use native.Mathlib.Decide.{ℕ_discrete, dec_le}
 use lib.ListN.{length, get_or, set, replicate, length-set, length-replicate, get_or-replicate}
 use lib.Seq.{get_or-set_same, get_or-set_other}
 use borrow.Author.Count.{below_more}
 use Rattle.terms.specs.Graphs.{Among, IsSubtask, time_of, from_of, to_of, Precedes}
-use Rattle.terms.specs.Paths.{PathTo, alone, along, weight, IsLongest}
+use Rattle.std.specs.Prelude.{sum_by}
+use Rattle.std.proofs.lemmas.List.Sums.{sum_by-cons}
+use Rattle.terms.specs.Sums.{sum}
+use Rattle.theory.proofs.Sums.{sum_eq, sum_first}
+use Rattle.terms.specs.Paths.{total_work, PathTo, alone, along, weight, IsLongest}
 use Rattle.inputs.specs.Lent.{IsTimeOf}
 use Rattle.graph.specs.Chains.{Tidy, Chains}
 use Rattle.graph.specs.Ordered.{Ordered}
 use Rattle.graph.specs.Latest.{Latest}
 use Rattle.theory.proofs.Stores.{read_set}
 use Rattle.graph.proofs.Chained.{Along, Looks, along_begin, along_next, next_less, passed_now}
+
+-- the sum of a row's items is the total work
+pub total_items : (times : List ℕ) → sum_by (λ time. time) times ≡ total_work times
+unfolding total_work time_of sum
+total_items times = by_place times ∙ sum_eq (length times) (λ i. get_or times i 0) (λ i. get_or times (suc i - 1) 0)
+    (λ i _. ap (λ (k : ℕ). get_or times k 0) (omega arith))
+  where
+    by_place : (times : List ℕ) → sum_by (λ time. time) times ≡ sum (length times) (λ i. get_or times i 0)
+    by_place [] = refl
+    by_place (t ∷ ts) = omega (arith, sum_by-cons (λ (time : ℕ). time) t ts, by_place ts, sum_first (length ts) (λ i. get_or (t ∷ ts) i 0))
 
 -- the larger of two numbers is one of them
 one_of : (a b r : ℕ) → r ≡ max a b → (r ≡ a) ⊎ (r ≡ b)

@@ -8,7 +8,7 @@ use lib.ListN.{length, get_or, set, replicate, length-replicate}
 use Rattle.terms.specs.Graphs.{Among, from_of, to_of}
 use Rattle.theory.proofs.Tallies.{tally, tally_none, tally_all}
 use Rattle.graph.specs.Chains.{Tidy, Chains}
-use Rattle.graph.specs.Ordered.{StandsBelow, Ordered, Orders}
+use Rattle.graph.specs.Ordered.{StandsBelow, Ordered}
 use Rattle.graph.proofs.Chained.{Along}
 use Rattle.graph.proofs.Marks.{new, unplaced, new_is, unplaced_is, unplaced_not, first_mark, kept}
 
@@ -118,13 +118,8 @@ module _ {n : ℕ} {arrows : List (List ℕ)} where
 
   -- ---- every subtask was tried, and there is no way
   pub state_end : {first next row marks stack : List ℕ} {depth m root u c : ℕ} → State n arrows first next row marks stack depth m root u c
-      → u ≡ 0 → root ≡ n → Orders n arrows row 0
-  state_end {row = row} {marks = marks} {m = m} s eu er = record {
-    within = omega arith;
-    ordered = λ _. order;
-    cycle = λ h. absurd (h refl);
-    below = λ j l. absurd (omega (arith, l));
-  }
+      → u ≡ 0 → root ≡ n → Ordered n arrows row
+  state_end {row = row} {marks = marks} {m = m} s eu er = order
     where
       placed : (v : ℕ) → Among 1 n v → get_or marks v 0 ≡ 0
       placed v t = omega (arith, (s.at.none eu).2 v t, s.tried.old v t (omega (arith, t.high, er)))

@@ -8,7 +8,7 @@ use native.Mathlib.Omega.{arith}
 use lib.ListN.{length, get_or}
 use Rattle.terms.specs.Graphs.{Among, from_of, to_of, LeadsTo, step, more}
 use Rattle.graph.proofs.Chained.{Looks, along_next, next_less, passed_now}
-use Rattle.graph.specs.Ordered.{Orders}
+use Rattle.graph.specs.Ordered.{Closes}
 use Rattle.graph.proofs.NoCycle.{leads_to_subtask, on_no_cycle}
 use Rattle.graph.proofs.Walk.{State, left}
 
@@ -64,11 +64,10 @@ module _ {n : ℕ} {arrows : List (List ℕ)} {first next row marks stack : List
           (more l (record { place = place; inside = inside; begins = same; arrives = refl }))
 
   -- and what is below the root is placed
-  pub state_cycle : get_or marks p 0 ≢ 0 → get_or marks p 0 ≢ 1 → Orders n arrows row root
+  pub state_cycle : get_or marks p 0 ≢ 0 → get_or marks p 0 ≢ 1 → Closes n arrows root
   state_cycle a b = record {
-    within = s.tried.within;
-    ordered = λ z. absurd (omega (arith, z, s.begun on_way));
-    cycle = λ _. around a b;
+    is = record { low = s.begun on_way; high = s.tried.within };
+    cycle = around a b;
     below = λ j l h. let t = leads_to_subtask s.tidy h in on_no_cycle m s.rows.once s.rows.first (s.rows.there j t (s.tried.below j t l)) h;
   }
     where

@@ -125,6 +125,9 @@ module _ {n : ℕ} {arrows : List (List ℕ)} {first next row marks stack : List
     pub back_small : (1 ≤ a) × (a ≤ 2048)
     back_small = (top.some, omega (arith, top.inside, s.tidy.few))
 
+    pub back_is : {v : ℕ} → v ≡ to_of arrows (a - 1) → v ≢ 0
+    back_is e z = omega (arith, e, z, (s.tidy.to_in (a - 1) (omega (arith, top.some, top.inside))).low)
+
     pub state_back : {v : ℕ} → v ≡ to_of arrows (a - 1)
         → State n arrows first next (set row m u) (set marks u 0) stack (depth - 1) (m + 1) root v (get_or next (a - 1) 0)
         × (left n arrows (set marks u 0) root (get_or next (a - 1) 0) < left n arrows marks root c)

@@ -1,29 +1,15 @@
--- How many arrows have wrong ends, arrow by arrow. Assumes nothing.
-use mathlib.Core.List.{List, []}
-use Prim.Native.Nat.{ℕ, ◌+◌, ◌≤◌}
-use native.Mathlib.Omega.{arith}
-use lib.ListN.{get_or}
+-- Whether every arrow goes from one subtask to another, arrow by arrow. Assumes nothing.
+use Rattle.std.proofs.Common.{ℕ, ◌+◌, Bool, true, false, List, [], get_or, arith}
+use mathlib.Core.Bool.{◌&&◌}
 use borrow.Author.Count.{below_more}
 use Rattle.terms.specs.Graphs.{from_of, to_of}
-use Rattle.graph.specs.Scans.{TwoOf, FaultOf, right, wrong, Faults}
+use Rattle.theory.specs.Flags.{Says}
+use Rattle.graph.specs.Scans.{TwoOf, AllJoin}
 
-pub fault_small : {n r : ℕ} {ends : List ℕ} → FaultOf n ends r → r ≤ 1
-fault_small (right two) = omega arith
-fault_small (wrong bad) = omega arith
-
-module _ {n : ℕ} {arrows : List (List ℕ)} where
-  pub faults_none : Faults n arrows 0 0
-  faults_none = record { most = omega arith; none = λ _ a l. absurd (omega (arith, l)); some = λ h. absurd (h (omega arith)) }
-
-  pub faults_more : {b count r : ℕ} → Faults n arrows b count → FaultOf n (get_or arrows b []) r → Faults n arrows (b + 1) (count + r)
+module _ (n : ℕ) (arrows : List (List ℕ)) (b : ℕ) where
+  pub join_more : (all two : Bool) → AllJoin n arrows b all → Says (TwoOf n (get_or (get_or arrows b []) 0 0) (get_or (get_or arrows b []) 1 0)) two
+      → AllJoin n arrows (b + 1) (all && two)
   unfolding from_of to_of
-  faults_more {b} f (right two) = record {
-    most = omega (arith, f.most);
-    none = λ z. below_more (λ a. TwoOf n (from_of arrows a) (to_of arrows a)) b (f.none (omega (arith, z))) two;
-    some = λ h. let w = f.some (λ z. h (omega (arith, z))) in (w.0, omega (arith, w.1), w.2);
-  }
-  faults_more {b} f (wrong bad) = record {
-    most = omega (arith, f.most);
-    none = λ z. absurd (omega (arith, z));
-    some = λ _. (b, omega arith, bad);
-  }
+  join_more true true before two = below_more (λ a. TwoOf n (from_of arrows a) (to_of arrows a)) b before two
+  join_more true false before bad = (b, omega arith, bad)
+  join_more false two (a, l, bad) _ = (a, omega (arith, l), bad)

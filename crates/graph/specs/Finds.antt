@@ -1,24 +1,23 @@
 -- What the check of a graph answers, and what it leaves.
-use Rattle.std.specs.Prelude.{◌≡◌, ◌≢◌, List, ℕ, length}
-use Rattle.terms.specs.Rows.{Row, Accepted, RefusedBy, refusal_at}
+use Rattle.std.specs.Prelude.{Some, None, List, ℕ, ◌+◌, length, Result, Ok, Err}
+use Rattle.terms.specs.Rows.{Row, Accepted, RefusedBy}
 use Rattle.terms.specs.Graphs.{to_of}
-use Rattle.theory.specs.First.{First}
+use Rattle.theory.specs.First.{IsFirst}
 use Rattle.graph.specs.Scans.{Outside, Loops}
 use Rattle.terms.specs.declared.Refusal.{Refusal}
-use Rattle.terms.specs.declared.Check.{Check}
-use Rattle.terms.specs.declared.Check.TheVariants as check
+use Rattle.terms.specs.declared.Refusal.TheVariants.{ArrowOutside, ArrowToItself}
 use Rattle.graph.specs.Chains.{Chains}
 use Rattle.graph.specs.Ordered.{Ordered}
 
--- the refusal of arrows of which some has wrong ends: 4 at the first that names a subtask outside 1..n; else 5 at the first, if there is one,
--- that goes from a subtask to itself
-pub data WrongEnds (n : ℕ) (arrows : List (List ℕ)) (refusal : Refusal) : Type 0 where
-  names_outside : (place : ℕ) → First (length arrows) (Outside n arrows) place → place ≢ 0 → refusal ≡ refusal_at 4 place 0 → WrongEnds n arrows refusal
-  none_outside : (place : ℕ) → First (length arrows) (Outside n arrows) 0 → First (length arrows) (Loops arrows) place → refusal ≡ refusal_at 5 place 0
-      → WrongEnds n arrows refusal
+-- the refusal of arrows of which some has wrong ends: 4 at the first that names a subtask outside 1..n; else 5 at the first that goes from a
+-- subtask to itself
+pub data WrongEnds (n : ℕ) (arrows : List (List ℕ)) : Refusal → Type 0 where
+  names_outside : (i : ℕ) → IsFirst (length arrows) (Outside n arrows) (Some i) → WrongEnds n arrows (ArrowOutside (i + 1))
+  none_outside : (i : ℕ) → IsFirst (length arrows) (Outside n arrows) None → IsFirst (length arrows) (Loops arrows) (Some i)
+      → WrongEnds n arrows (ArrowToItself (i + 1))
 
 -- these rows refuse; or they accept, the arrows stand as chains and the subtasks in an order, predecessors first
-pub data Finds (rows : List Row) (times : List ℕ) (arrows : List (List ℕ)) (first next order : List ℕ) : Check → Type 0 where
-  refused : {refusal : Refusal} → RefusedBy rows refusal → Finds rows times arrows first next order (check.Refused refusal)
+pub data Finds (rows : List Row) (times : List ℕ) (arrows : List (List ℕ)) (first next order : List ℕ) : Result (Unit {0}) Refusal → Type 0 where
+  refused : {refusal : Refusal} → RefusedBy rows refusal → Finds rows times arrows first next order (Err refusal)
   sound : Accepted rows → Chains (to_of arrows) first next (length arrows) → Ordered (length times) arrows order
-      → Finds rows times arrows first next order check.Sound
+      → Finds rows times arrows first next order (Ok tt)

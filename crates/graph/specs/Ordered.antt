@@ -1,5 +1,6 @@
 -- The order "predecessors first": the first n entries of a row.
-use Rattle.std.specs.Prelude.{◌≡◌, ◌≢◌, List, ℕ, ◌≤◌, ◌<◌, length, get_or}
+use Rattle.std.specs.Prelude.{◌≡◌, Result, Ok, Err, List, ℕ, ◌<◌, length, get_or}
+use Rattle.terms.specs.declared.Subtask.{Subtask}
 use Rattle.terms.specs.Graphs.{Among, from_of, to_of, LeadsTo}
 
 -- v stands in the row at a place below b
@@ -16,9 +17,13 @@ pub record Ordered (n : ℕ) (arrows : List (List ℕ)) (row : List ℕ) : Type 
   -- an arrow into entry j comes from an entry before it
   pub first : (k : ℕ) → k < length arrows → (j : ℕ) → j < n → get_or row j 0 ≡ to_of arrows k → StandsBelow row j (from_of arrows k)
 
--- r is 0, and the row is an order; or the arrows close a cycle, and no subtask below r is on one
-pub record Orders (n : ℕ) (arrows : List (List ℕ)) (row : List ℕ) (r : ℕ) : Type 0 where
-  pub within : r ≤ n
-  pub ordered : r ≡ 0 → Ordered n arrows row
-  pub cycle : r ≢ 0 → (j : ℕ) × LeadsTo arrows j j
-  pub below : (j : ℕ) → j < r → ¬ LeadsTo arrows j j
+-- the arrows close a cycle, and no subtask below this one is on one
+pub record Closes (n : ℕ) (arrows : List (List ℕ)) (root : ℕ) : Type 0 where
+  pub is : Among 1 n root
+  pub cycle : (j : ℕ) × LeadsTo arrows j j
+  pub below : (j : ℕ) → j < root → ¬ LeadsTo arrows j j
+
+-- the row is an order; or the arrows close a cycle
+abbrev pub Orders : ℕ → List (List ℕ) → List ℕ → Result (Unit {0}) Subtask → Type 0
+Orders n arrows row (Ok _) = Ordered n arrows row
+Orders n arrows row (Err root) = Closes n arrows root.0

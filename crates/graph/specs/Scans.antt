@@ -1,5 +1,5 @@
--- What the scans over the arrows look for. What they answer is theory's `First`: a position counted from 1, and 0 for none.
-use Rattle.std.specs.Prelude.{◌≡◌, ◌≢◌, ◌⊎◌, List, ℕ, ◌≤◌, ◌<◌, get_or}
+-- What the scans over the arrows look for. What they answer is theory's `IsFirst`.
+use Rattle.std.specs.Prelude.{◌≡◌, ◌≢◌, Bool, true, false, List, ℕ, ◌<◌, min, Option, Some, None}
 use Rattle.terms.specs.Graphs.{Among, from_of, to_of}
 
 -- the arrow at a place names a subtask outside 1..n
@@ -16,19 +16,12 @@ pub record TwoOf (n u v : ℕ) : Type 0 where
   pub to_in : Among 1 n v
   pub apart : u ≢ v
 
--- r is 0 where the ends of an arrow are two, and 1 else
-pub data FaultOf (n : ℕ) (ends : List ℕ) : ℕ → Type 0 where
-  right : TwoOf n (get_or ends 0 0) (get_or ends 1 0) → FaultOf n ends 0
-  wrong : ¬ TwoOf n (get_or ends 0 0) (get_or ends 1 0) → FaultOf n ends 1
+-- each of the arrows below b goes from one of 1..n to another; or one does not
+abbrev pub AllJoin : ℕ → List (List ℕ) → ℕ → Bool → Type 0
+AllJoin n arrows b true = (a : ℕ) → a < b → TwoOf n (from_of arrows a) (to_of arrows a)
+AllJoin n arrows b false = (a : ℕ) × (a < b) × ¬ TwoOf n (from_of arrows a) (to_of arrows a)
 
--- of the arrows below b at most r have ends that are no two; with r = 0 none has, else one has
-pub record Faults (n : ℕ) (arrows : List (List ℕ)) (b r : ℕ) : Type 0 where
-  pub most : r ≤ b
-  pub none : r ≡ 0 → (a : ℕ) → a < b → TwoOf n (from_of arrows a) (to_of arrows a)
-  pub some : r ≢ 0 → (a : ℕ) × (a < b) × ¬ TwoOf n (from_of arrows a) (to_of arrows a)
-
--- r is the earlier of two positions, of which 0 is none
-pub record Earlier (a b r : ℕ) : Type 0 where
-  pub one : (r ≡ a) ⊎ (r ≡ b)
-  pub left : 0 < a → (0 < r) × (r ≤ a)
-  pub right : 0 < b → (0 < r) × (r ≤ b)
+-- the earlier of a place and one that may have been found
+abbrev pub earlier_of : Option ℕ → ℕ → ℕ
+earlier_of None place = place
+earlier_of (Some found) place = min found place

@@ -3,7 +3,6 @@ ghost use Rattle.std.specs.Prelude.{◌≡◌, ◌-◌, ◌≤◌, ◌<◌, leng
 ghost use Rattle.terms.specs.Graphs.{from_of, to_of};
 ghost use Rattle.graph.specs.Chains.{Chains, Tidy};
 
-use inputs::{to_at, usize_from_u16, usize_from_u32};
 use terms::Subtask;
 
 // For each subtask the chain of the arrows into it, the latest first: `first` holds the position of that one, `next` of the one before it.
@@ -13,13 +12,10 @@ pub fn chain(n: usize, arrows: &[[u16; 2]], first: &mut [u32; 257], next: &mut [
     requires first_value { (first.old ≡ replicate 257 0) × (length next.old ≡ 2048) }
     ensures { Chains (to_of arrows.now) first.new next.new (length arrows.now) }
 {
-    let mut i: usize = 0;
-    while i < arrows.len() {
-        let to = to_at(arrows, i);
-        let v = to.0;
+    for (i, &[_, to]) in arrows.iter().enumerate() {
+        let v = usize::from(to);
         next[i] = first[v] as u16;
         first[v] = (i + 1) as u32;
-        i += 1;
     }
 }
 
@@ -28,8 +24,7 @@ pub fn chain_begin(first: &[u32; 257], v: Subtask) -> usize
     requires { v.0 < 257 }
     ensures { result ≡ get_or first.now v.0 0 }
 {
-    let j = v.0;
-    usize_from_u32(first[j])
+    first[v.0] as usize
 }
 
 // The position that comes after c in its chain.
@@ -37,7 +32,7 @@ pub fn chain_next(next: &[u16; 2048], c: usize) -> usize
     requires { (1 ≤ c) × (c ≤ 2048) }
     ensures { result ≡ get_or next.now (c - 1) 0 }
 {
-    usize_from_u16(next[c - 1])
+    usize::from(next[c - 1])
 }
 
 // The subtask from which the arrow at position c comes.
@@ -45,6 +40,6 @@ pub fn source(arrows: &[[u16; 2]], c: usize) -> Subtask
     requires { (1 ≤ c) × (c ≤ length arrows.now) }
     ensures { (result.0 ≡ from_of arrows.now (c - 1)) × (result.0 < 65536) }
 {
-    let ends = arrows[c - 1];
-    Subtask(usize_from_u16(ends[0]))
+    let [from, _] = arrows[c - 1];
+    Subtask(usize::from(from))
 }

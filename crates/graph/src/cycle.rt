@@ -1,12 +1,11 @@
 // The lowest subtask on any cycle, which is asked for only where the arrows close one.
 ghost use Rattle.std.specs.Prelude.{ℕ, ◌<◌, length};
 ghost use Rattle.terms.specs.Graphs.{Among, to_of, LeadsTo};
-ghost use Rattle.theory.specs.First.{FirstSubtask};
+ghost use Rattle.theory.specs.First.{IsFirstSubtask};
 ghost use Rattle.theory.specs.Flags.{Says};
 ghost use Rattle.graph.specs.Chains.{Chains, Tidy};
 
 use crate::chains::{chain_begin, chain_next, source};
-use inputs::usize_from_u16;
 use terms::Subtask;
 
 // Whether the arrows lead from a subtask back to it. It goes back along the arrows from there: each subtask that is met stands in the queue
@@ -45,32 +44,30 @@ fn leads_back(
         } else if done == met {
             return false;
         } else {
-            let u = usize_from_u16(queue[done]);
+            let u = usize::from(queue[done]);
             done += 1;
             c = chain_begin(first, Subtask(u));
         }
     }
 }
 
-// 7: the lowest subtask that the arrows lead back to, and 0 for none; below `from` there is none.
+// 7: the lowest subtask that the arrows lead back to; below `from` there is none.
 pub fn lowest_on_cycle(
     n: usize,
     arrows: &[[u16; 2]],
     first: &[u32; 257],
     next: &[u16; 2048],
     from: Subtask,
-) -> Subtask
+) -> Option<Subtask>
     requires tidy { Tidy n arrows.now }
     requires chains { Chains (to_of arrows.now) first.now next.now (length arrows.now) }
     requires among { Among 1 n from.0 × ((j : ℕ) → j < from.0 → ¬ LeadsTo arrows.now j j) }
-    ensures { FirstSubtask n (λ j. LeadsTo arrows.now j j) result.0 }
+    ensures { IsFirstSubtask n (λ j. LeadsTo arrows.now j j) result }
 {
-    let mut j = from.0 - 1;
-    while j < n {
-        j += 1;
+    for j in from.0..=n {
         if leads_back(n, arrows, first, next, Subtask(j)) {
-            return Subtask(j);
+            return Some(Subtask(j));
         }
     }
-    Subtask(0)
+    None
 }

@@ -5,10 +5,10 @@ ghost use Rattle.graph.specs.Chains.{Chains, Tidy};
 ghost use Rattle.graph.specs.Ordered.{Orders};
 
 use crate::chains::{chain_begin, chain_next, source};
-use inputs::{to_at, usize_from_u16};
+use inputs::to_at;
 use terms::Subtask;
 
-// 0 where the subtasks can stand in an order, predecessors first, which is left in `order`; else the arrows close a cycle, and the answer
+// Whether the subtasks can stand in an order, predecessors first, which is left in `order`; else the arrows close a cycle, and the answer
 // is a subtask below which none is on one. It goes back along the arrows from each subtask in turn. At u, c is the position of the arrow that
 // is looked at; the arrows on the way to u stand on the stack. A mark is 1 where the subtask was not come to, its depth on the way and 2
 // where it is on the way, and 0 once it is placed.
@@ -18,57 +18,53 @@ pub fn order_subtasks(
     first: &[u32; 257],
     next: &[u16; 2048],
     order: &mut [u16; 256],
-) -> Subtask
+) -> Result<(), Subtask>
     requires tidy { Tidy n arrows.now }
     requires chains { Chains (to_of arrows.now) first.now next.now (length arrows.now) }
     requires order_len { length order.old ≡ 256 }
-    ensures { Orders n arrows.now order.new result.0 }
+    ensures { Orders n arrows.now order.new result }
 {
     let mut mark = [1u16; 257];
     let mut stack = [0u16; 256];
-    let mut depth: usize = 0;
     let mut placed: usize = 0;
-    let mut root: usize = 0;
-    let mut u: usize = 0;
-    let mut c: usize = 0;
-    loop {
-        if c != 0 {
-            let from = source(arrows, c);
-            let p = from.0;
-            let m = mark[p];
-            if m == 0 {
-                c = chain_next(next, c);
-            } else if m == 1 {
-                stack[depth] = c as u16;
-                depth += 1;
-                mark[p] = (depth + 2) as u16;
-                u = p;
-                c = chain_begin(first, from);
+    for root in 1..=n {
+        if mark[root] != 1 {
+            continue;
+        }
+        mark[root] = 2;
+        let mut depth: usize = 0;
+        let mut u = root;
+        let mut c = chain_begin(first, Subtask(root));
+        loop {
+            if c != 0 {
+                let from = source(arrows, c);
+                let p = from.0;
+                let m = mark[p];
+                if m == 0 {
+                    c = chain_next(next, c);
+                } else if m == 1 {
+                    stack[depth] = c as u16;
+                    depth += 1;
+                    mark[p] = (depth + 2) as u16;
+                    u = p;
+                    c = chain_begin(first, from);
+                } else {
+                    return Err(Subtask(root));
+                }
             } else {
-                return Subtask(root);
-            }
-        } else if u != 0 {
-            mark[u] = 0;
-            order[placed] = u as u16;
-            placed += 1;
-            if depth == 0 {
-                u = 0;
-            } else {
+                mark[u] = 0;
+                order[placed] = u as u16;
+                placed += 1;
+                if depth == 0 {
+                    break;
+                }
                 depth -= 1;
-                let a = usize_from_u16(stack[depth]);
+                let a = usize::from(stack[depth]);
                 let to = to_at(arrows, a - 1);
                 u = to.0;
                 c = chain_next(next, a);
             }
-        } else if root == n {
-            return Subtask(0);
-        } else {
-            root += 1;
-            if mark[root] == 1 {
-                mark[root] = 2;
-                u = root;
-                c = chain_begin(first, Subtask(root));
-            }
         }
     }
+    Ok(())
 }

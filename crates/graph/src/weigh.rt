@@ -7,7 +7,7 @@ ghost use Rattle.graph.specs.Ordered.{Ordered};
 ghost use Rattle.graph.specs.Latest.{Latest};
 
 use crate::chains::{chain_begin, chain_next, source};
-use inputs::{larger, time_of, usize_from_u16};
+use inputs::time_of;
 use terms::Subtask;
 
 // C: the sum of all times.
@@ -15,13 +15,7 @@ pub fn total(times: &[u16]) -> u32
     requires { length times.now ≤ 256 }
     ensures { result ≡ total_work times.now }
 {
-    let mut sum: u32 = 0;
-    let mut i: usize = 0;
-    while i < times.len() {
-        i += 1;
-        sum += time_of(times, Subtask(i));
-    }
-    sum
+    times.iter().map(|&time| u32::from(time)).sum()
 }
 
 // The largest finish of the subtasks from which an arrow of the chain goes to v, 0 for none.
@@ -43,7 +37,7 @@ fn latest(
     while c != 0 {
         let from = source(arrows, c);
         let p = from.0;
-        most = larger(most, finish[p]);
+        most = most.max(finish[p]);
         c = chain_next(next, c);
     }
     most
@@ -64,15 +58,13 @@ pub fn longest(
 {
     let mut finish = [0u32; 257];
     let mut most: u32 = 0;
-    let mut j: usize = 0;
-    while j < times.len() {
-        let v = usize_from_u16(order[j]);
+    for &entry in &order[..times.len()] {
+        let v = usize::from(entry);
         let before = latest(times.len(), Subtask(v), arrows, first, next, &finish);
         let time = time_of(times, Subtask(v));
         let f = before + time;
         finish[v] = f;
-        most = larger(most, f);
-        j += 1;
+        most = most.max(f);
     }
     most
 }

@@ -19,7 +19,7 @@ use Rattle.theory.proofs.Ascending.{at_has, passing_has, each_same}
 use Rattle.theory.proofs.Stores.{sets_append}
 use Rattle.theory.proofs.TextLengths.{passing_few}
 use Rattle.theory.proofs.JoinedRows.{joined_rows, joined_many}
-use Rattle.arranged.specs.Free.{free_of, IsFront}
+use Rattle.arranged.specs.Free.{free_from, free_to, IsFront}
 use Rattle.arranged.proofs.NoArrows.{Leads, front_lasts, front_firsts}
 use Rattle.joins.specs.Tables.{both_rows, made_rows, Joinable}
 use Rattle.joins.specs.Puts.{Puts, rows_arrows, Moves}
@@ -194,10 +194,10 @@ module _ (a b : Graph) where
         record { first = known.0; second = known.1; few = known.2; way = way; entered_by = e }
 
     -- those of the first without successors, and those of the second without predecessors
-    pub ended : {before list : List ℕ} {k : ℕ} → IsFront (free_of 0 a.arrows (min (size a) 256)) before list k → Leads (lasts_of (size a) a.arrows) list k
+    pub ended : {before list : List ℕ} {k : ℕ} → IsFront (free_from a.arrows (min (size a) 256)) before list k → Leads (lasts_of (size a) a.arrows) list k
     ended = front_lasts (sound_graph a.times a.arrows (both_sound a b sound).0)
 
-    pub begun : {before list : List ℕ} {k : ℕ} → IsFront (free_of 1 b.arrows (min (size b) 256)) before list k → Leads (firsts_of (size b) b.arrows) list k
+    pub begun : {before list : List ℕ} {k : ℕ} → IsFront (free_to b.arrows (min (size b) 256)) before list k → Leads (firsts_of (size b) b.arrows) list k
     begun = front_firsts (sound_graph b.times b.arrows (both_sound a b sound).1)
 
   pub joined_by : (way : Way) {targets : List ℕ} (times : List ℕ) (arrows : List (List ℕ)) (times' : List ℕ) (arrows' : List (List ℕ)) (r : Counts)

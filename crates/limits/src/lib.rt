@@ -1,107 +1,75 @@
 // How many subtasks, arrows and processors there may be, and which times and deadlines: 1, 2, 3, 8 and 9 of the table.
 #![tactic(auto)]
 
-ghost use Rattle.std.specs.Prelude.{◌≡◌, ◌≤◌, length};
-ghost use Rattle.terms.specs.Graphs.{time_of};
+ghost use Rattle.std.specs.Prelude.{◌≡◌, ◌==◌, length, position};
 ghost use Rattle.terms.specs.Refusals.{subtask_rows, size_rows, processor_rows, deadline_rows};
 ghost use Rattle.terms.specs.Replies.{IsCheck};
-ghost use Rattle.theory.specs.First.{FirstSubtask};
-ghost use Rattle.limits.specs.Times.{NoughtOf, Noughts};
+ghost use Rattle.theory.specs.Flags.{Says};
+ghost use Rattle.limits.specs.Times.{AllTakeTime};
 
-use inputs::time_of;
-use terms::{
-    Check, LONGEST_DEADLINE, MOST_ARROWS, MOST_PROCESSORS, MOST_SUBTASKS, Subtask, refuse,
-    refuse_at,
-};
+use terms::{LONGEST_DEADLINE, MOST_ARROWS, MOST_PROCESSORS, MOST_SUBTASKS, Refusal, Subtask};
 
-// 1 where a time is 0, else 0.
-fn nought_of(time: u32) -> u16
-    ensures { NoughtOf time result }
+// 2: whether every subtask takes some time. None ends the loop early, so that many are looked at together.
+fn all_take_time(times: &[u16]) -> bool
+    ensures { Says (AllTakeTime (length times.now) times.now) result }
 {
-    if time == 0 {
-        return 1;
+    let mut all = true;
+    for time in times {
+        all &= *time != 0;
     }
-    0
+    all
 }
 
-// 2: how many subtasks take no time. None ends the loop early, so that many are looked at together.
-fn without_time(times: &[u16]) -> u16
-    requires { length times.now ≤ 256 }
-    ensures { Noughts times.now (length times.now) result }
+// 2: the place of the first time that is 0.
+fn first_nought(times: &[u16]) -> Option<usize>
+    ensures { result ≡ position (λ time. time == 0) times.now }
 {
-    let mut count: u16 = 0;
-    let mut j: usize = 0;
-    while j < times.len() {
-        j += 1;
-        count += nought_of(time_of(times, Subtask(j)));
-    }
-    count
-}
-
-// 2: the first subtask that takes no time, and 0 for none.
-fn first_without_time(times: &[u16]) -> Subtask
-    ensures { FirstSubtask (length times.now) (λ j. time_of times.now j ≡ 0) result.0 }
-{
-    let mut j: usize = 0;
-    while j < times.len() {
-        j += 1;
-        if time_of(times, Subtask(j)) == 0 {
-            return Subtask(j);
-        }
-    }
-    Subtask(0)
+    times.iter().position(|time| *time == 0)
 }
 
 // 1 and 2.
-pub fn check_subtasks(times: &[u16]) -> Check
+pub fn check_subtasks(times: &[u16]) -> Result<(), Refusal>
     ensures { IsCheck (subtask_rows times.now) result }
 {
     let n = times.len();
-    if n < 1 {
-        return Check::Refused(refuse(1));
+    if n < 1 || MOST_SUBTASKS < n {
+        return Err(Refusal::SubtaskCount);
     }
-    if MOST_SUBTASKS < n {
-        return Check::Refused(refuse(1));
+    if all_take_time(times) {
+        return Ok(());
     }
-    if without_time(times) != 0 {
-        let first = first_without_time(times);
-        return Check::Refused(refuse_at(2, first.0 as u32));
+    match first_nought(times) {
+        Some(place) => Err(Refusal::TimeZero(place as u32 + 1)),
+        None => Ok(()),
     }
-    Check::Sound
 }
 
 // 3.
-pub fn check_size(arrows: &[[u16; 2]]) -> Check
+pub fn check_size(arrows: &[[u16; 2]]) -> Result<(), Refusal>
     ensures { IsCheck (size_rows arrows.now) result }
 {
     if MOST_ARROWS < arrows.len() {
-        return Check::Refused(refuse(3));
+        return Err(Refusal::ArrowCount);
     }
-    Check::Sound
+    Ok(())
 }
 
 // 8.
-pub fn check_processors(m: u32) -> Check
+pub fn check_processors(m: u32) -> Result<(), Refusal>
     ensures { IsCheck (processor_rows m) result }
 {
-    if m < 1 {
-        return Check::Refused(refuse(8));
+    if m < 1 || MOST_PROCESSORS < m {
+        return Err(Refusal::ProcessorCount);
     }
-    if MOST_PROCESSORS < m {
-        return Check::Refused(refuse(8));
-    }
-    Check::Sound
+    Ok(())
 }
 
 // 9.
-pub fn check_deadline(d: u32) -> Check
+pub fn check_deadline(d: u32) -> Result<(), Refusal>
     ensures { IsCheck (deadline_rows d) result }
 {
-    if d < 1 {
-        return Check::Refused(refuse(9));
+    if d < 1 || LONGEST_DEADLINE < d {
+        return Err(Refusal::Deadline);
     }
-    if LONGEST_DEADLINE < d {
-        return Check::Refused(refuse(9));
-    }
-    Check::Sound
+    Ok(())
 }

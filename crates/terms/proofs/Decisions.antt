@@ -1,5 +1,5 @@
 -- A row of each kind is decided together with its place, and so is a whole table, by decisions that compute. Assumes nothing.
-use mathlib.Core.Path.{◌≡◌, refl, subst}
+use mathlib.Core.Path.{◌≡◌, refl, subst, sym}
 use mathlib.Core.Logic.Dec
 use mathlib.Core.Logic.{◌≢◌, ◌⊎◌, inl, inr, by_cases}
 use mathlib.Core.List.{List, [], ◌∷◌, ◌++◌}
@@ -7,7 +7,7 @@ use Prim.Native.Nat.{ℕ, suc, ◌-◌, ◌<◌}
 use native.Mathlib.Omega.{arith}
 use native.Mathlib.Decide.{dec_lt}
 use lib.ListN.{length}
-use Rattle.terms.specs.Rows.{IsAt, Row, row, Accepted, RefusedBy, refusal_at}
+use Rattle.terms.specs.Rows.{IsAt, Row, row, Accepted, Gives, RefusedBy, number_of, place_of, second_of}
 use Rattle.terms.specs.Graphs.{IsSubtask}
 use Rattle.terms.specs.Refusals.{SomeSubtask, PairAt, first_subtask, first_arrow, smallest_pair, lowest}
 use Rattle.terms.specs.declared.Refusal.{Refusal}
@@ -122,10 +122,24 @@ Accepts none = Unit {0}
 Accepts (and (holds_at place second h s) later) = ⊥
 Accepts (and (never h) later) = Accepts later
 
+-- these are the number, the place and the second number of a refusal
+pub record Tells (a : Refusal) (k place second : ℕ) : Type 0 where
+  pub number_is : number_of a ≡ k
+  pub place_is : place_of a ≡ place
+  pub second_is : second_of a ≡ second
+
+pub told : {a : Refusal} → Tells a (number_of a) (place_of a) (second_of a)
+told = record { number_is = refl; place_is = refl; second_is = refl }
+
+pub gives : {row : Row} {place second : ℕ} (a : Refusal) → row.holds → IsAt row.spot place second → Tells a row.number place second → Gives row a
+gives {row} {place} {second} a h s t =
+    let there = subst (λ (x : ℕ). IsAt row.spot x second) (sym t.place_is) s in
+    record { holds = h; number_is = t.number_is; spot_is = subst (IsAt row.spot (place_of a)) (sym t.second_is) there }
+
 -- the first row that holds gives this refusal
 unfoldable pub Refuses : {rows : List Row} → Refusal → Decided rows → Type 0
 Refuses r none = ⊥
-Refuses r (and {row} (holds_at place second h s) later) = refusal_at row.number place second ≡ r
+Refuses r (and {row} (holds_at place second h s) later) = Tells r row.number place second
 Refuses r (and (never h) later) = Refuses r later
 
 pub accepts : {rows : List Row} (decided : Decided rows) → Accepts decided → Accepted rows
@@ -137,8 +151,7 @@ accepts (and (never h) later) a = (h, accepts later a)
 pub refuses : {rows : List Row} (r : Refusal) (decided : Decided rows) → Refuses r decided → RefusedBy rows r
 unfolding RefusedBy Refuses
 refuses r none e = absurd e
-refuses r (and {row} {rows} (holds_at place second h s) later) e =
-    subst (RefusedBy (row ∷ rows)) e (inl (record { holds = h; number_is = refl; spot_is = s }))
+refuses r (and (holds_at place second h s) later) tells = inl (gives r h s tells)
 refuses r (and (never h) later) e = inr (h, refuses r later e)
 
 unfoldable pub then : {rows later : List Row} → Decided rows → Decided later → Decided (rows ++ later)

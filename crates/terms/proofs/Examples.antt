@@ -8,7 +8,7 @@ use native.Mathlib.Decide.{dec_le, dec_lt, ℕ_discrete}
 use lib.Dec.{T}
 use lib.Ieee.{binary32, round, to_bits}
 use lib.ListN.{length, replicate, take, drop}
-use Rattle.terms.specs.Rows.{Accepted, refusal_at}
+use Rattle.terms.specs.Rows.{Accepted}
 use Rattle.terms.specs.Graphs.{IsSubtask, time_of, from_of, to_of, Precedes, LeadsTo}
 use Rattle.terms.specs.Sums.{sum}
 use Rattle.terms.specs.Paths.{total_work, PathTo, alone, along, weight, IsLongest}
@@ -23,14 +23,14 @@ use Rattle.terms.specs.declared.Entry.{Entry}
 use Rattle.terms.specs.declared.Refusal.{Refusal}
 use Rattle.terms.specs.declared.Verdict.{Verdict}
 use Rattle.terms.specs.declared.Verdict.TheVariants.{Fits, Late}
-use Rattle.terms.specs.declared.Outcome.TheVariants.{Judged}
-use Rattle.terms.specs.declared.PlanEnd.TheVariants.{Ends, Refused}
 use Rattle.terms.proofs.Decide.{is_yes, by_yes, via, dec_when, dec_or_not, seek, dec_some, dec_all, dec_each, dec_among, dec_some_subtask}
 use Rattle.terms.proofs.Decide.{dec_repeats, dec_order, dec_runs, dec_free, dec_served, dec_ready, dec_idle, dec_starts_early, dec_share}
 use Rattle.terms.proofs.Decisions.{Decision, never, dec_plain, dec_first_subtask, dec_first_arrow, dec_lowest, dec_pair_at, dec_lower, dec_smallest_pair}
-use Rattle.terms.proofs.Decisions.{Accepts, Refuses, accepts, refuses, then}
+use Rattle.terms.proofs.Decisions.{Accepts, Refuses, told, accepts, refuses, then}
 use Rattle.terms.proofs.Tables.{dec_finishes, no_cycle, longest_by, graph_decided, on_decided}
 use Rattle.terms.proofs.Tables.{verdict_decided, list_decided, dec_idle_sometime, check_decided, stepped, after, dec_ends, dec_begun}
+use Rattle.std.specs.Prelude.{Ok, Err}
+use Rattle.terms.specs.declared.Refusal.TheVariants.{Idle, StartEarly}
 
 -- ---- graph G
 
@@ -66,12 +66,12 @@ pub record HasFigures (times : List ℕ) (arrows : List (List ℕ)) (M C P S : �
 
 -- the list plan, written to a row of n entries, ends at E
 abbrev pub ListPlanEnds : List ℕ → List (List ℕ) → List ℕ → ℕ → ℕ → Type 0
-ListPlanEnds times arrows order M E = (plan : List Entry) × IsListed times arrows M order (replicate (length times) not_placed) plan (Ends E)
+ListPlanEnds times arrows order M E = (plan : List Entry) × IsListed times arrows M order (replicate (length times) not_placed) plan (Ok E)
 
 -- the whole answer to a deadline question
 abbrev pub Says : List ℕ → List (List ℕ) → ℕ → ℕ → ℕ → ℕ → ℕ → Verdict → Type 0
 Says times arrows M D C P S verdict =
-    IsAnswer times arrows M D (record { figures = record { c = C; p = P; s = S; load = load_of C M D }; outcome = Judged verdict })
+    IsAnswer times arrows M D (record { figures = record { c = C; p = P; s = S; load = load_of C M D }; outcome = Ok verdict })
 
 -- both subtasks on processor 1
 abbrev pub both_on_one : ℕ → ℕ → List Entry
@@ -86,11 +86,11 @@ pub record Examples : Type 0 where
   pub six : Says (5 ∷ 5 ∷ []) [] 2 8 10 5 15 (Fits 1) × Says (5 ∷ 5 ∷ []) [] 2 7 10 5 15 (Fits 0) × Says (5 ∷ 5 ∷ []) [] 2 6 10 5 15 (Late 1)
   pub seven : Says (1 ∷ []) [] 16 1 1 1 16 (Fits 0)
   pub eight : HasFigures (3 ∷ 4 ∷ []) ((1 ∷ 2 ∷ []) ∷ []) 2 7 7 14
-      × IsChecked (3 ∷ 4 ∷ []) ((1 ∷ 2 ∷ []) ∷ []) 2 (both_on_one 0 3) (Ends 7)
-      × IsChecked (3 ∷ 4 ∷ []) ((1 ∷ 2 ∷ []) ∷ []) 2 (both_on_one 0 2) (Refused (refusal_at 15 2 0))
-  pub nine : IsChecked (3 ∷ []) [] 1 (at 1 1 ∷ []) (Refused (refusal_at 17 0 0))
-  pub ten : IsChecked (5 ∷ 5 ∷ []) [] 2 (both_on_one 0 5) (Refused (refusal_at 17 0 0))
-      × IsChecked (5 ∷ 5 ∷ []) [] 1 (both_on_one 0 5) (Ends 10)
+      × IsChecked (3 ∷ 4 ∷ []) ((1 ∷ 2 ∷ []) ∷ []) 2 (both_on_one 0 3) (Ok 7)
+      × IsChecked (3 ∷ 4 ∷ []) ((1 ∷ 2 ∷ []) ∷ []) 2 (both_on_one 0 2) (Err (StartEarly 2))
+  pub nine : IsChecked (3 ∷ []) [] 1 (at 1 1 ∷ []) (Err (Idle 0))
+  pub ten : IsChecked (5 ∷ 5 ∷ []) [] 2 (both_on_one 0 5) (Err (Idle 0))
+      × IsChecked (5 ∷ 5 ∷ []) [] 1 (both_on_one 0 5) (Ok 10)
   -- the list plan ends at the sure end, 5 1/3 rounded down
   pub fourteen : HasFigures long_last [] 3 10 3 16 × ListPlanEnds long_last [] (take 8 order_g) 3 (sure_end 16 3) × Says long_last [] 3 5 10 3 16 (Fits 0)
   -- example 5's load, 34 / 60, is the float nearest to 0.56666..
@@ -131,7 +131,7 @@ module _ (times : List ℕ) (arrows : List (List ℕ)) (finish : List ℕ) (P : 
 
   checked_ends : (M K E : ℕ) (plan : List Entry) (f : Finished) (b : T (is_yes (dec_begun times plan K)))
       → Accepts (check_decided times arrows M plan K (acyclic f) (by_yes (dec_begun times plan K) b)) → T (is_yes (dec_ends times plan E)) → IsChecked
-      times arrows M plan (Ends E)
+      times arrows M plan (Ok E)
   unfolding IsChecked
   checked_ends M K E plan f b a e = (
     accepts (check_decided times arrows M plan K (acyclic f) (by_yes (dec_begun times plan K) b)) a,
@@ -139,7 +139,7 @@ module _ (times : List ℕ) (arrows : List (List ℕ)) (finish : List ℕ) (P : 
   )
 
   pub checked_refused : (M K : ℕ) (r : Refusal) (plan : List Entry) (f : Finished) (b : T (is_yes (dec_begun times plan K)))
-      → Refuses r (check_decided times arrows M plan K (acyclic f) (by_yes (dec_begun times plan K) b)) → IsChecked times arrows M plan (Refused r)
+      → Refuses r (check_decided times arrows M plan K (acyclic f) (by_yes (dec_begun times plan K) b)) → IsChecked times arrows M plan (Err r)
   unfolding IsChecked
   checked_refused M K r plan f b e = refuses r (check_decided times arrows M plan K (acyclic f) (by_yes (dec_begun times plan K) b)) e
 
@@ -219,11 +219,11 @@ examples =
         has_figures (3 ∷ 4 ∷ []) ((1 ∷ 2 ∷ []) ∷ []) (3 ∷ 7 ∷ []) 7 2 7 14 tt 2
             (along (alone 1 (subtask_at (3 ∷ 4 ∷ []) 1 tt)) 2 (arrow_at ((1 ∷ 2 ∷ []) ∷ []) 0 tt)) refl tt refl refl,
         checked_ends (3 ∷ 4 ∷ []) ((1 ∷ 2 ∷ []) ∷ []) (3 ∷ 7 ∷ []) 7 2 3 7 (both_on_one 0 3) tt tt tt tt,
-        checked_refused (3 ∷ 4 ∷ []) ((1 ∷ 2 ∷ []) ∷ []) (3 ∷ 7 ∷ []) 7 2 2 (refusal_at 15 2 0) (both_on_one 0 2) tt tt refl,
+        checked_refused (3 ∷ 4 ∷ []) ((1 ∷ 2 ∷ []) ∷ []) (3 ∷ 7 ∷ []) 7 2 2 (StartEarly 2) (both_on_one 0 2) tt tt told,
       );
-      nine = checked_refused (3 ∷ []) [] (3 ∷ []) 3 1 1 (refusal_at 17 0 0) (at 1 1 ∷ []) tt tt refl;
+      nine = checked_refused (3 ∷ []) [] (3 ∷ []) 3 1 1 (Idle 0) (at 1 1 ∷ []) tt tt told;
       ten = (
-        checked_refused (5 ∷ 5 ∷ []) [] (5 ∷ 5 ∷ []) 5 2 5 (refusal_at 17 0 0) (both_on_one 0 5) tt tt refl,
+        checked_refused (5 ∷ 5 ∷ []) [] (5 ∷ 5 ∷ []) 5 2 5 (Idle 0) (both_on_one 0 5) tt tt told,
         checked_ends (5 ∷ 5 ∷ []) [] (5 ∷ 5 ∷ []) 5 1 5 10 (both_on_one 0 5) tt tt tt tt,
       );
       fourteen = (

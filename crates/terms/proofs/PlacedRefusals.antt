@@ -6,19 +6,21 @@ use Prim.Native.Nat.{ℕ, ◌<◌}
 use native.Mathlib.Decide.{dec_le, dec_lt, ℕ_discrete}
 use lib.Dec.{T}
 use lib.ListN.{length}
-use Rattle.terms.specs.Rows.{IsAt, RefusedBy, refusal_at}
+use Rattle.terms.specs.Rows.{IsAt, RefusedBy}
 use Rattle.terms.specs.Graphs.{time_of, from_of, to_of, LeadsTo, step, more}
 use Rattle.terms.specs.Plans.{at, processor_of, start_of, end_of}
 use Rattle.terms.specs.Refusals.{graph_rows, lowest}
 use Rattle.terms.specs.Replies.{IsChecked}
 use Rattle.terms.specs.declared.Entry.{Entry}
-use Rattle.terms.specs.declared.PlanEnd.TheVariants.{Refused}
 use Rattle.terms.proofs.Decide.{is_yes, by_yes, via, dec_when, dec_or_not, seek, dec_some, dec_all, dec_each, dec_among, dec_some_subtask, dec_repeats}
 use Rattle.terms.proofs.Decide.{dec_runs, dec_free, dec_served, dec_ready, dec_idle, dec_starts_early, dec_share}
 use Rattle.terms.proofs.Decisions.{Decision, holds_at, dec_plain, dec_first_subtask, dec_first_arrow, dec_lowest, dec_pair_at, dec_lower}
-use Rattle.terms.proofs.Decisions.{dec_smallest_pair, Refuses, refuses, then}
+use Rattle.terms.proofs.Decisions.{dec_smallest_pair, Refuses, told, refuses, then}
 use Rattle.terms.proofs.Tables.{dec_finishes, graph_decided, on_decided, dec_idle_sometime, check_decided, dec_begun}
 use Rattle.terms.proofs.Examples.{acyclic, arrow_at, checked_refused}
+use Rattle.std.specs.Prelude.{Err}
+use Rattle.terms.specs.declared.Refusal.{Refusal}
+use Rattle.terms.specs.declared.Refusal.TheVariants.{ArrowOutside, ArrowToItself, ArrowTwice, Cycle, Idle, Overlap, ProcessorOutside, StartEarly, StartLarge, TimeZero}
 
 -- ---- graphs
 
@@ -47,24 +49,24 @@ fork = (1 ∷ 2 ∷ []) ∷ (1 ∷ 3 ∷ []) ∷ []
 
 -- ---- what is refused, and where
 
-abbrev pub RefusedPlan : List ℕ → List (List ℕ) → ℕ → List Entry → ℕ → ℕ → ℕ → Type 0
-RefusedPlan times arrows M plan k place second = IsChecked times arrows M plan (Refused (refusal_at k place second))
+abbrev pub RefusedPlan : List ℕ → List (List ℕ) → ℕ → List Entry → Refusal → Type 0
+RefusedPlan times arrows M plan refusal = IsChecked times arrows M plan (Err refusal)
 
 pub record PlacedRefusals : Type 0 where
-  pub two : RefusedBy (graph_rows (1 ∷ 0 ∷ 0 ∷ []) []) (refusal_at 2 2 0)
-  pub four : RefusedBy (graph_rows ones outward) (refusal_at 4 2 0)
-  pub five : RefusedBy (graph_rows ones own_ends) (refusal_at 5 2 0)
-  pub six : RefusedBy (graph_rows ones twice) (refusal_at 6 3 0)
-  pub seven : RefusedBy (graph_rows ones around) (refusal_at 7 2 0)
+  pub two : RefusedBy (graph_rows (1 ∷ 0 ∷ 0 ∷ []) []) (TimeZero 2)
+  pub four : RefusedBy (graph_rows ones outward) (ArrowOutside 2)
+  pub five : RefusedBy (graph_rows ones own_ends) (ArrowToItself 2)
+  pub six : RefusedBy (graph_rows ones twice) (ArrowTwice 3)
+  pub seven : RefusedBy (graph_rows ones around) (Cycle 2)
   -- processors 3 and 4 of two
-  pub thirteen : RefusedPlan (1 ∷ 1 ∷ 1 ∷ []) [] 2 (at 1 0 ∷ at 3 0 ∷ at 4 0 ∷ []) 13 2 0
-  pub fourteen : RefusedPlan (1 ∷ 1 ∷ []) [] 2 (at 1 0 ∷ at 2 16776961 ∷ []) 14 2 0
+  pub thirteen : RefusedPlan (1 ∷ 1 ∷ 1 ∷ []) [] 2 (at 1 0 ∷ at 3 0 ∷ at 4 0 ∷ []) (ProcessorOutside 2)
+  pub fourteen : RefusedPlan (1 ∷ 1 ∷ []) [] 2 (at 1 0 ∷ at 2 16776961 ∷ []) (StartLarge 2)
   -- 2 and 3 both start before 1 ends
-  pub fifteen : RefusedPlan (2 ∷ 1 ∷ 1 ∷ []) fork 2 (at 1 0 ∷ at 2 1 ∷ at 2 0 ∷ []) 15 2 0
+  pub fifteen : RefusedPlan (2 ∷ 1 ∷ 1 ∷ []) fork 2 (at 1 0 ∷ at 2 1 ∷ at 2 0 ∷ []) (StartEarly 2)
   -- 2 and 4 share an instant, and so do 3 and 4
-  pub sixteen : RefusedPlan (1 ∷ 2 ∷ 2 ∷ 2 ∷ []) [] 2 (at 2 0 ∷ at 1 0 ∷ at 1 2 ∷ at 1 1 ∷ []) 16 2 4
+  pub sixteen : RefusedPlan (1 ∷ 2 ∷ 2 ∷ 2 ∷ []) [] 2 (at 2 0 ∷ at 1 0 ∷ at 1 2 ∷ at 1 1 ∷ []) (Overlap 2 4)
   -- 2 waits until 5, although the processor is free from 3 on
-  pub seventeen : RefusedPlan (3 ∷ 1 ∷ []) [] 1 (at 1 0 ∷ at 1 5 ∷ []) 17 3 0
+  pub seventeen : RefusedPlan (3 ∷ 1 ∷ []) [] 1 (at 1 0 ∷ at 1 5 ∷ []) (Idle 3)
 
 -- ---- how each is found
 
@@ -86,14 +88,14 @@ module _ (arrows : List (List ℕ)) (r : ℕ) where
 pub placed_refusals : PlacedRefusals
 unfolding Refuses then graph_decided on_decided check_decided dec_idle_sometime dec_begun dec_finishes lowest_cycle via dec_when dec_or_not seek dec_some dec_all dec_each dec_among dec_some_subtask dec_plain dec_first_subtask dec_first_arrow dec_lowest dec_pair_at dec_lower dec_smallest_pair dec_repeats dec_runs dec_free dec_served dec_ready dec_idle dec_starts_early dec_share Dec.and Dec.not dec_le dec_lt ℕ_discrete time_of from_of to_of processor_of start_of end_of
 placed_refusals = record {
-  two = refuses _ (graph_decided (1 ∷ 0 ∷ 0 ∷ []) [] (acyclic (1 ∷ 1 ∷ 1 ∷ []) [] (1 ∷ 1 ∷ 1 ∷ []) 1 tt)) refl;
-  four = refuses _ (graph_decided ones outward (acyclic ones outward (1 ∷ 2 ∷ 1 ∷ 1 ∷ 2 ∷ 2 ∷ []) 2 tt)) refl;
-  five = refuses _ (graph_decided ones own_ends (lowest_cycle own_ends 1 (step (arrow_at own_ends 2 tt)) tt)) refl;
-  six = refuses _ (graph_decided ones twice (acyclic ones twice (1 ∷ 2 ∷ 3 ∷ 1 ∷ []) 3 tt)) refl;
-  seven = refuses _ (graph_decided ones around (lowest_cycle around 2 (more (step {j = 3} (arrow_at around 1 tt)) (arrow_at around 2 tt)) tt)) refl;
-  thirteen = checked_refused (1 ∷ 1 ∷ 1 ∷ []) [] (1 ∷ 1 ∷ 1 ∷ []) 1 2 0 _ (at 1 0 ∷ at 3 0 ∷ at 4 0 ∷ []) tt tt refl;
-  fourteen = checked_refused (1 ∷ 1 ∷ []) [] (1 ∷ 1 ∷ []) 1 2 16776961 _ (at 1 0 ∷ at 2 16776961 ∷ []) tt tt refl;
-  fifteen = checked_refused (2 ∷ 1 ∷ 1 ∷ []) fork (2 ∷ 3 ∷ 3 ∷ []) 3 2 1 _ (at 1 0 ∷ at 2 1 ∷ at 2 0 ∷ []) tt tt refl;
-  sixteen = checked_refused (1 ∷ 2 ∷ 2 ∷ 2 ∷ []) [] (1 ∷ 2 ∷ 2 ∷ 2 ∷ []) 2 2 2 _ (at 2 0 ∷ at 1 0 ∷ at 1 2 ∷ at 1 1 ∷ []) tt tt refl;
-  seventeen = checked_refused (3 ∷ 1 ∷ []) [] (3 ∷ 1 ∷ []) 3 1 5 _ (at 1 0 ∷ at 1 5 ∷ []) tt tt refl;
+  two = refuses _ (graph_decided (1 ∷ 0 ∷ 0 ∷ []) [] (acyclic (1 ∷ 1 ∷ 1 ∷ []) [] (1 ∷ 1 ∷ 1 ∷ []) 1 tt)) told;
+  four = refuses _ (graph_decided ones outward (acyclic ones outward (1 ∷ 2 ∷ 1 ∷ 1 ∷ 2 ∷ 2 ∷ []) 2 tt)) told;
+  five = refuses _ (graph_decided ones own_ends (lowest_cycle own_ends 1 (step (arrow_at own_ends 2 tt)) tt)) told;
+  six = refuses _ (graph_decided ones twice (acyclic ones twice (1 ∷ 2 ∷ 3 ∷ 1 ∷ []) 3 tt)) told;
+  seven = refuses _ (graph_decided ones around (lowest_cycle around 2 (more (step {j = 3} (arrow_at around 1 tt)) (arrow_at around 2 tt)) tt)) told;
+  thirteen = checked_refused (1 ∷ 1 ∷ 1 ∷ []) [] (1 ∷ 1 ∷ 1 ∷ []) 1 2 0 _ (at 1 0 ∷ at 3 0 ∷ at 4 0 ∷ []) tt tt told;
+  fourteen = checked_refused (1 ∷ 1 ∷ []) [] (1 ∷ 1 ∷ []) 1 2 16776961 _ (at 1 0 ∷ at 2 16776961 ∷ []) tt tt told;
+  fifteen = checked_refused (2 ∷ 1 ∷ 1 ∷ []) fork (2 ∷ 3 ∷ 3 ∷ []) 3 2 1 _ (at 1 0 ∷ at 2 1 ∷ at 2 0 ∷ []) tt tt told;
+  sixteen = checked_refused (1 ∷ 2 ∷ 2 ∷ 2 ∷ []) [] (1 ∷ 2 ∷ 2 ∷ 2 ∷ []) 2 2 2 _ (at 2 0 ∷ at 1 0 ∷ at 1 2 ∷ at 1 1 ∷ []) tt tt told;
+  seventeen = checked_refused (3 ∷ 1 ∷ []) [] (3 ∷ 1 ∷ []) 3 1 5 _ (at 1 0 ∷ at 1 5 ∷ []) tt tt told;
 }

@@ -16,11 +16,11 @@ use Rattle.terms.specs.Nests.{Members, none, graph, opener, Nest, count, depth, 
 use Rattle.terms.specs.NestGraphs.{ahead, whole, HasWeights, Carries, carries_none, carries_graph, carries_opener}
 use Rattle.terms.specs.Replies.{IsNestMeasure}
 use Rattle.terms.specs.declared.Weights.{Weights}
-use Rattle.terms.specs.declared.Measure.TheVariants as measure
 use Rattle.terms.proofs.Decide.{via, seek, dec_some, dec_all, dec_each, dec_among, dec_repeats}
 use Rattle.terms.proofs.Decisions.{dec_plain, dec_first_subtask, dec_first_arrow, Accepts}
 use Rattle.terms.proofs.Tables.{dec_finishes, graph_decided}
 use Rattle.terms.proofs.Examples.{has_weights, arrow_at, subtask_at}
+use Rattle.std.specs.Prelude.{Ok}
 
 abbrev weighing : ℕ → ℕ → Weights
 weighing C P = record { c = C; p = P }
@@ -86,7 +86,7 @@ pub record Example16 : Type 0 where
   pub is_nest : IsNest row nest
   pub work : work_of nest ≡ 27
   pub path : path_of nest ≡ 16
-  pub reply : IsNestMeasure row (measure.Is (weighing 27 16))
+  pub reply : IsNestMeasure row (Ok (weighing 27 16))
   pub carries : Carries end_to_end members nest
   pub whole_is : whole members ≡ made
   pub whole_has : HasWeights (whole members) (weighing 27 16)
@@ -111,7 +111,7 @@ nest_weighs : (work_of nest ≡ 27) × (path_of nest ≡ 16)
 unfolding work_of path_of
 nest_weighs = (refl, refl)
 
-nest_replied : IsNestMeasure row (measure.Is (weighing 27 16))
+nest_replied : IsNestMeasure row (Ok (weighing 27 16))
 unfolding IsNestMeasure
 nest_replied = (nest, row_is_nest, sym nest_weighs.0, sym nest_weighs.1)
 

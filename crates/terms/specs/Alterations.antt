@@ -1,9 +1,8 @@
 -- Demand 3: keep a graph's subtasks, shorten any times, drop any arrows, use M processors or more up to 16.
-use Rattle.std.specs.Prelude.{◌≡◌, List, [], ◌∷◌, ℕ, ◌<◌, length}
+use Rattle.std.specs.Prelude.{◌≡◌, List, [], ◌∷◌, ℕ, ◌<◌, length, Ok}
 use Rattle.terms.specs.Graphs.{Among, IsSubtask, time_of, Precedes}
 use Rattle.terms.specs.Refusals.{Repeats}
 use Rattle.terms.specs.declared.Answer.{Answer}
-use Rattle.terms.specs.declared.Outcome.TheVariants.{Judged}
 use Rattle.terms.specs.declared.Verdict.TheVariants.{Fits}
 
 pub record Altered (times : List ℕ) (arrows : List (List ℕ)) (M : ℕ) (times' : List ℕ) (arrows' : List (List ℕ)) (M' : ℕ) : Type 0 where
@@ -25,4 +24,4 @@ pub data Dropped : List (List ℕ) → List (List ℕ) → Type 0 where
 
 -- the answer's verdict is "fits"
 abbrev pub SaysFits : Answer → Type 0
-SaysFits answer = (spare : ℕ) × (answer.outcome ≡ Judged (Fits spare))
+SaysFits answer = (spare : ℕ) × (answer.outcome ≡ Ok (Fits spare))

@@ -1,21 +1,21 @@
 -- docs/PLANNER.md, "STG text": the graph that a text means, or the number by which it is refused; then the reader's reply and its two rows.
-use Rattle.std.specs.Prelude.{◌≡◌, List, [], ◌∷◌, ◌++◌, Bool, true, false, cond, ◌&&◌, ◌||◌, ℕ, zero, suc, ◌+◌, ◌-◌, eqb, leb, ltb, length, get_or, drop, replicate}
-use Rattle.terms.specs.Rows.{Accepted, RefusedBy, refusal_of}
+use Rattle.std.specs.Prelude.{◌≡◌, List, [], ◌∷◌, ◌++◌, Bool, true, false, cond, ◌&&◌, ◌||◌, ℕ, zero, suc, ◌+◌, ◌-◌, eqb, leb, ltb, length, get_or, drop, replicate, Result, Ok, Err}
+use Rattle.terms.specs.Rows.{Accepted, RefusedBy}
 use Rattle.terms.specs.Refusals.{time_and_arrow_rows}
 use Rattle.terms.specs.Texts.{all_pass, begins, is_blank, lines, proper, numbers}
 use Rattle.terms.specs.declared.Refusal.{Refusal}
-use Rattle.terms.specs.declared.Counts.{Counts}
-use Rattle.terms.specs.declared.Counts.TheVariants as counts
+use Rattle.terms.specs.declared.Refusal.TheVariants.{Room, TextLength, FirstLine, TaskLine, DummyLine, TimeLarge}
+use Rattle.terms.specs.declared.GraphSize.{GraphSize}
 
 -- a refusal, or a graph: its times and its arrows, each "from, to"
 pub data Reading : Type 0 where
   refuse : Refusal → Reading
   graph : List ℕ → List (List ℕ) → Reading
 
--- the reading where the test is passed, and else the refusal with number k
-abbrev pub need : Bool → ℕ → Reading → Reading
-need true k reading = reading
-need false k reading = refuse (refusal_of k)
+-- the reading where the test is passed, and else this refusal
+abbrev pub need : Bool → Refusal → Reading → Reading
+need true refusal reading = reading
+need false refusal reading = refuse refusal
 
 -- the line at hand and the lines after it; a line that is missing is no better than an empty one
 abbrev pub line_at_hand : List (List ℕ) → List ℕ
@@ -84,29 +84,29 @@ with_task time into (graph times arrows) = graph (time ∷ times) (into ++ arrow
 
 unfoldable pub trailer : List (List ℕ) → Reading
 trailer [] = graph [] []
-trailer (line ∷ later) = need (may_follow line) 22 (trailer later)
+trailer (line ∷ later) = need (may_follow line) TaskLine (trailer later)
 
 unfoldable pub exit_line : ℕ → List (List ℕ) → Reading
-exit_line i ls = need (is_task i (line_at_hand ls)) 22 (need (is_exit_dummy i (line_at_hand ls)) 23 (trailer (lines_after ls)))
+exit_line i ls = need (is_task i (line_at_hand ls)) TaskLine (need (is_exit_dummy i (line_at_hand ls)) DummyLine (trailer (lines_after ls)))
 
 -- the lines of so many tasks from i on, then the exit dummy's
 unfoldable pub task_lines : ℕ → ℕ → List (List ℕ) → Reading
 task_lines i zero ls = exit_line i ls
 task_lines i (suc left) ls =
-    need (is_task i (line_at_hand ls)) 22
-    (need (leb (time_in (line_at_hand ls)) 65535) 24
+    need (is_task i (line_at_hand ls)) TaskLine
+    (need (leb (time_in (line_at_hand ls)) 65535) TimeLarge
     (with_task (time_in (line_at_hand ls)) (arrows_into i (predecessors_in (line_at_hand ls))) (task_lines (i + 1) left (lines_after ls))))
 
 unfoldable pub entry_line : ℕ → List (List ℕ) → Reading
-entry_line n ls = need (is_task 0 (line_at_hand ls)) 22 (need (is_entry_dummy (line_at_hand ls)) 23 (task_lines 1 n (lines_after ls)))
+entry_line n ls = need (is_task 0 (line_at_hand ls)) TaskLine (need (is_entry_dummy (line_at_hand ls)) DummyLine (task_lines 1 n (lines_after ls)))
 
 unfoldable pub read_lines : List (List ℕ) → Reading
-read_lines ls = need (is_first (line_at_hand ls)) 21 (entry_line (size_in (line_at_hand ls)) (lines_after ls))
+read_lines ls = need (is_first (line_at_hand ls)) FirstLine (entry_line (size_in (line_at_hand ls)) (lines_after ls))
 
 -- the reader asks 11 first, then 20, then goes line by line; it is lent rows of so many times and arrows
 unfoldable pub read_text : ℕ → ℕ → List ℕ → Reading
 read_text times_room arrows_room text =
-    need (leb 256 times_room && leb 2048 arrows_room) 11 (need (leb (length text) 60000) 20 (read_lines (lines text)))
+    need (leb 256 times_room && leb 2048 arrows_room) Room (need (leb (length text) 60000) TextLength (read_lines (lines text)))
 
 -- ---- the reply and the two rows
 
@@ -123,18 +123,18 @@ pub record RowsHold (times_room arrows_room : ℕ) (times : List ℕ) (arrows : 
   pub arrows_held : arrows_row ≡ padded arrows_room no_arrow arrows
 
 -- with a refusal both rows are all zeros; otherwise they hold the graph, and the reply has its counts. 2 to 7 are asked of the graph that was read
-unfoldable pub IsReplyTo : Reading → ℕ → ℕ → List ℕ → List (List ℕ) → Counts → Type 0
-IsReplyTo (refuse first) times_room arrows_room times_row arrows_row (counts.Refused refusal) =
+unfoldable pub IsReplyTo : Reading → ℕ → ℕ → List ℕ → List (List ℕ) → Result GraphSize Refusal → Type 0
+IsReplyTo (refuse first) times_room arrows_room times_row arrows_row (Err refusal) =
     (refusal ≡ first) × RowsHold times_room arrows_room [] [] times_row arrows_row
-IsReplyTo (refuse first) times_room arrows_room times_row arrows_row (counts.Read size) = ⊥
-IsReplyTo (graph times arrows) times_room arrows_room times_row arrows_row (counts.Refused refusal) =
+IsReplyTo (refuse first) times_room arrows_room times_row arrows_row (Ok size) = ⊥
+IsReplyTo (graph times arrows) times_room arrows_room times_row arrows_row (Err refusal) =
     RefusedBy (time_and_arrow_rows times arrows) refusal × RowsHold times_room arrows_room [] [] times_row arrows_row
-IsReplyTo (graph times arrows) times_room arrows_room times_row arrows_row (counts.Read size) =
+IsReplyTo (graph times arrows) times_room arrows_room times_row arrows_row (Ok size) =
     Accepted (time_and_arrow_rows times arrows)
     × (size.subtasks ≡ length times)
     × (size.arrows ≡ length arrows)
     × RowsHold times_room arrows_room times arrows times_row arrows_row
 
 -- the reader's whole statement, over the lengths of its rows before, and what they hold after
-abbrev pub IsRead : ℕ → ℕ → List ℕ → List ℕ → List (List ℕ) → Counts → Type 0
+abbrev pub IsRead : ℕ → ℕ → List ℕ → List ℕ → List (List ℕ) → Result GraphSize Refusal → Type 0
 IsRead times_room arrows_room text times_row arrows_row reply = IsReplyTo (read_text times_room arrows_room text) times_room arrows_room times_row arrows_row reply

@@ -1,8 +1,8 @@
-// The words of the planner: its kinds of number, its records and replies, its limits.
+// The words of the planner: its kinds of number, its records, the refusals, its limits. A call that may refuse replies a `Result`.
 #![tactic(auto)]
 
 ghost use Rattle.std.specs.Prelude.{◌≡◌};
-ghost use Rattle.terms.specs.Rows.{refusal_at, refusal_of};
+ghost use Rattle.terms.specs.Rows.{number_of, place_of, second_of};
 
 // At most so many subtasks, arrows and processors.
 pub const MOST_SUBTASKS: usize = 256;
@@ -44,44 +44,123 @@ pub struct Entry {
     pub start: u32,
 }
 
-// Why an input was refused: the number in the table of refusals, the place that goes with it, and where that is of two the second; else 0.
-#[derive(Clone, Copy)]
-pub struct Refusal {
-    pub number: u8,
-    pub place: u32,
-    pub second: u32,
+// Why an input is refused, and where: the rows of the table of refusals.
+#[derive(Clone, Copy, PartialEq, Eq)]
+pub enum Refusal {
+    // 1: the count of subtasks is not 1 to 256.
+    SubtaskCount,
+    // 2: the time of this subtask is 0.
+    TimeZero(u32),
+    // 3: there are more than 2,048 arrows.
+    ArrowCount,
+    // 4: this arrow, counted from 1, names a subtask outside 1 to n.
+    ArrowOutside(u32),
+    // 5: this arrow leads from a subtask to itself.
+    ArrowToItself(u32),
+    // 6: this arrow repeats an earlier one.
+    ArrowTwice(u32),
+    // 7: the arrows close a cycle through this subtask, the lowest on any.
+    Cycle(u32),
+    // 8: the count of processors is not 1 to 16.
+    ProcessorCount,
+    // 9: the deadline is not 1 to 1,000,000 microseconds.
+    Deadline,
+    // 10: the order does not hold each subtask exactly once.
+    Order,
+    // 11: the lent room is too short.
+    Room,
+    // 12: the plan has not one entry for each subtask.
+    PlanLength,
+    // 13: this subtask is on a processor outside 1 to M.
+    ProcessorOutside(u32),
+    // 14: this subtask starts above 16,776,960 microseconds.
+    StartLarge(u32),
+    // 15: this subtask starts before a predecessor ends.
+    StartEarly(u32),
+    // 16: these two subtasks share an instant on one processor.
+    Overlap(u32, u32),
+    // 17: at this instant, in microseconds, a subtask is ready and a processor is free.
+    Idle(u32),
+    // 20: the text is above 60,000 bytes.
+    TextLength,
+    // 21: the first line is not one number 1 to 256.
+    FirstLine,
+    // 22: a task line is missing or misshapen, or something stands after the last one.
+    TaskLine,
+    // 23: the line of a dummy is not a proper one.
+    DummyLine,
+    // 24: a time is above 65,535.
+    TimeLarge,
+    // 30: the joined graph has more than 256 subtasks.
+    JoinedSubtasks,
+    // 31: the joined graph has more than 2,048 arrows.
+    JoinedArrows,
+    // 32: the row is not the writing of a nest.
+    Nest,
 }
 
-// The three makers of refusals; whoever meets one passes it on. At no place:
-pub fn refuse(number: u8) -> Refusal
-    ensures { result ≡ refusal_of number }
-{
-    refuse_pair(number, 0, 0)
-}
-
-// At one place.
-pub fn refuse_at(number: u8, place: u32) -> Refusal
-    ensures { result ≡ refusal_at number place 0 }
-{
-    refuse_pair(number, place, 0)
-}
-
-// At two.
-pub fn refuse_pair(number: u8, place: u32, second: u32) -> Refusal
-    ensures { result ≡ refusal_at number place second }
-{
-    Refusal {
-        number,
-        place,
-        second,
+impl Refusal {
+    // The number in the table.
+    pub fn number(self) -> u8
+        ensures { result ≡ number_of self }
+    {
+        match self {
+            Refusal::SubtaskCount => 1,
+            Refusal::TimeZero(_) => 2,
+            Refusal::ArrowCount => 3,
+            Refusal::ArrowOutside(_) => 4,
+            Refusal::ArrowToItself(_) => 5,
+            Refusal::ArrowTwice(_) => 6,
+            Refusal::Cycle(_) => 7,
+            Refusal::ProcessorCount => 8,
+            Refusal::Deadline => 9,
+            Refusal::Order => 10,
+            Refusal::Room => 11,
+            Refusal::PlanLength => 12,
+            Refusal::ProcessorOutside(_) => 13,
+            Refusal::StartLarge(_) => 14,
+            Refusal::StartEarly(_) => 15,
+            Refusal::Overlap(_, _) => 16,
+            Refusal::Idle(_) => 17,
+            Refusal::TextLength => 20,
+            Refusal::FirstLine => 21,
+            Refusal::TaskLine => 22,
+            Refusal::DummyLine => 23,
+            Refusal::TimeLarge => 24,
+            Refusal::JoinedSubtasks => 30,
+            Refusal::JoinedArrows => 31,
+            Refusal::Nest => 32,
+        }
     }
-}
 
-// Whether an input is accepted.
-#[derive(Clone, Copy)]
-pub enum Check {
-    Sound,
-    Refused(Refusal),
+    // The place that goes with it, else 0.
+    pub fn place(self) -> u32
+        ensures { result ≡ place_of self }
+    {
+        match self {
+            Refusal::TimeZero(place)
+            | Refusal::ArrowOutside(place)
+            | Refusal::ArrowToItself(place)
+            | Refusal::ArrowTwice(place)
+            | Refusal::Cycle(place)
+            | Refusal::ProcessorOutside(place)
+            | Refusal::StartLarge(place)
+            | Refusal::StartEarly(place)
+            | Refusal::Idle(place) => place,
+            Refusal::Overlap(lower, _) => lower,
+            _ => 0,
+        }
+    }
+
+    // Where that is of two the second, else 0.
+    pub fn second(self) -> u32
+        ensures { result ≡ second_of self }
+    {
+        match self {
+            Refusal::Overlap(_, higher) => higher,
+            _ => 0,
+        }
+    }
 }
 
 // C and P of a graph, together.
@@ -89,19 +168,6 @@ pub enum Check {
 pub struct Weights {
     pub c: u32,
     pub p: u32,
-}
-
-#[derive(Clone, Copy)]
-pub enum Measure {
-    Is(Weights),
-    Refused(Refusal),
-}
-
-// C or P, asked for alone.
-#[derive(Clone, Copy)]
-pub enum Amount {
-    Is(u32),
-    Refused(Refusal),
 }
 
 // The figures of a graph on M processors against a deadline: C, P, S and the load.
@@ -120,43 +186,16 @@ pub enum Verdict {
     Late(u32),
 }
 
-#[derive(Clone, Copy)]
-pub enum Outcome {
-    Judged(Verdict),
-    Refused(Refusal),
-}
-
 // The answer to a deadline question.
 #[derive(Clone, Copy)]
 pub struct Answer {
     pub figures: Figures,
-    pub outcome: Outcome,
+    pub outcome: Result<Verdict, Refusal>,
 }
 
-// The reply of the list plan and of the plan check: where the plan ends.
-#[derive(Clone, Copy)]
-pub enum PlanEnd {
-    Ends(u32),
-    Refused(Refusal),
-}
-
-// How many subtasks and arrows a text has.
+// How many subtasks and arrows a text or a joined graph has.
 #[derive(Clone, Copy)]
 pub struct GraphSize {
     pub subtasks: usize,
     pub arrows: usize,
-}
-
-// The reader's reply.
-#[derive(Clone, Copy)]
-pub enum Counts {
-    Read(GraphSize),
-    Refused(Refusal),
-}
-
-// The writer's reply: how many bytes it wrote.
-#[derive(Clone, Copy)]
-pub enum Written {
-    Bytes(usize),
-    Refused(Refusal),
 }

@@ -8,8 +8,76 @@ use Prim.Native.Nat.{ℕ}
 use native.Mathlib.Omega.{arith}
 use native.Mathlib.Decide.{dec_lt}
 use lib.Dec.{eqb}
-use Rattle.terms.specs.Rows.{Smallest, Spot, nowhere, smallest, pair, IsAt, Row, row as plain, Accepted, Gives, RefusedBy, refusal_at, refusal_of}
+use Rattle.std.specs.Prelude.{cond}
+use Rattle.terms.specs.Rows.{Smallest, Spot, nowhere, smallest, pair, IsAt, Row, row as plain, Accepted, Gives, RefusedBy, number_of, place_of, second_of}
 use Rattle.terms.specs.declared.Refusal.{Refusal}
+use Rattle.terms.proofs.Decisions.{Tells, gives}
+use Rattle.terms.specs.declared.Refusal.TheVariants.{SubtaskCount, TimeZero, ArrowCount, ArrowOutside, ArrowToItself, ArrowTwice, Cycle, ProcessorCount, Deadline, Order, Room, PlanLength, ProcessorOutside, StartLarge, StartEarly, Overlap, Idle, TextLength, FirstLine, TaskLine, DummyLine, TimeLarge, JoinedSubtasks, JoinedArrows, Nest}
+
+-- ---- a refusal is its three numbers
+
+-- the refusal of three numbers
+abbrev made_of : ℕ → ℕ → ℕ → Refusal
+made_of k p q =
+    cond (eqb k 1) SubtaskCount
+    (cond (eqb k 2) (TimeZero p)
+    (cond (eqb k 3) ArrowCount
+    (cond (eqb k 4) (ArrowOutside p)
+    (cond (eqb k 5) (ArrowToItself p)
+    (cond (eqb k 6) (ArrowTwice p)
+    (cond (eqb k 7) (Cycle p)
+    (cond (eqb k 8) ProcessorCount
+    (cond (eqb k 9) Deadline
+    (cond (eqb k 10) Order
+    (cond (eqb k 11) Room
+    (cond (eqb k 12) PlanLength
+    (cond (eqb k 13) (ProcessorOutside p)
+    (cond (eqb k 14) (StartLarge p)
+    (cond (eqb k 15) (StartEarly p)
+    (cond (eqb k 16) (Overlap p q)
+    (cond (eqb k 17) (Idle p)
+    (cond (eqb k 20) TextLength
+    (cond (eqb k 21) FirstLine
+    (cond (eqb k 22) TaskLine
+    (cond (eqb k 23) DummyLine
+    (cond (eqb k 24) TimeLarge
+    (cond (eqb k 30) JoinedSubtasks
+    (cond (eqb k 31) JoinedArrows
+    Nest)))))))))))))))))))))))
+
+made_again : (a : Refusal) → made_of (number_of a) (place_of a) (second_of a) ≡ a
+made_again SubtaskCount = refl
+made_again (TimeZero p) = refl
+made_again ArrowCount = refl
+made_again (ArrowOutside p) = refl
+made_again (ArrowToItself p) = refl
+made_again (ArrowTwice p) = refl
+made_again (Cycle p) = refl
+made_again ProcessorCount = refl
+made_again Deadline = refl
+made_again Order = refl
+made_again Room = refl
+made_again PlanLength = refl
+made_again (ProcessorOutside p) = refl
+made_again (StartLarge p) = refl
+made_again (StartEarly p) = refl
+made_again (Overlap p q) = refl
+made_again (Idle p) = refl
+made_again TextLength = refl
+made_again FirstLine = refl
+made_again TaskLine = refl
+made_again DummyLine = refl
+made_again TimeLarge = refl
+made_again JoinedSubtasks = refl
+made_again JoinedArrows = refl
+made_again Nest = refl
+
+same_refusal : (a b : Refusal) → number_of a ≡ number_of b → place_of a ≡ place_of b → second_of a ≡ second_of b → a ≡ b
+same_refusal a b number place second =
+    sym (made_again a)
+    ∙ ap (λ (k : ℕ). made_of k (place_of a) (second_of a)) number
+    ∙ ap₂ (λ (p q : ℕ). made_of (number_of b) p q) place second
+    ∙ made_again b
 
 -- ---- one answer
 
@@ -26,9 +94,8 @@ one_spot (pair AreSo) p q p' q' (a, b) (c, d) = let e = one_smallest a c in (e, 
 
 one_given : (row : Row) (a b : Refusal) → Gives row a → Gives row b → a ≡ b
 one_given row a b g h =
-    let number = g.number_is ∙ sym h.number_is in
-    let spot = one_spot row.spot a.place a.second b.place b.second g.spot_is h.spot_is in
-    ap (λ (k : ℕ). refusal_at k a.place a.second) number ∙ ap₂ (λ (p q : ℕ). refusal_at b.number p q) spot.0 spot.1
+    let spot = one_spot row.spot (place_of a) (second_of a) (place_of b) (second_of b) g.spot_is h.spot_is in
+    same_refusal a b (g.number_is ∙ sym h.number_is) spot.0 spot.1
 
 -- no second refusal
 pub one_refusal : (rows : List Row) (a b : Refusal) → RefusedBy rows a → RefusedBy rows b → a ≡ b
@@ -117,14 +184,15 @@ pub stop_given : {rows rest : List Row} {row : Row} {a : Refusal} → Passed row
 unfolding RefusedBy
 stop_given p g = p.refuses _ (inl g)
 
--- the next row, which has no place, holds
-pub stop : {rows rest : List Row} {k : ℕ} {C : Type 0} → Passed rows (plain k C ∷ rest) → C → RefusedBy rows (refusal_of k)
-unfolding IsAt
-stop p h = stop_given p (record { holds = h; number_is = refl; spot_is = (refl, refl) })
+-- the next row holds, at this place
+pub stop_at : {rows rest : List Row} {row : Row} {place second : ℕ} {a : Refusal} → Passed rows (row ∷ rest) → row.holds → IsAt row.spot place second
+    → Tells a row.number place second → RefusedBy rows a
+stop_at p h s tells = stop_given p (gives _ h s tells)
 
--- the same of a refusal that was made with its number
-pub stop_with : {rows rest : List Row} {k : ℕ} {C : Type 0} {a : Refusal} → Passed rows (plain k C ∷ rest) → C → a ≡ refusal_of k → RefusedBy rows a
-stop_with p h e = rw e (stop p h)
+-- the next row, which has no place, holds
+pub stop : {rows rest : List Row} {k : ℕ} {C : Type 0} {a : Refusal} → Passed rows (plain k C ∷ rest) → C → Tells a k 0 0 → RefusedBy rows a
+unfolding IsAt
+stop p h tells = stop_at p h (refl, refl) tells
 
 -- there is none left
 pub done : {rows : List Row} → Passed rows [] → Accepted rows

@@ -14,8 +14,6 @@ use Rattle.terms.specs.Alterations.{Altered, Dropped, SaysFits}
 use Rattle.terms.specs.declared.Entry.{Entry}
 use Rattle.terms.specs.declared.Figures.{Figures}
 use Rattle.terms.specs.declared.Answer.{Answer}
-use Rattle.terms.specs.declared.PlanEnd.TheVariants.{Ends}
-use Rattle.terms.specs.declared.Outcome.TheVariants.{Judged}
 use Rattle.terms.specs.declared.Verdict.TheVariants.{Fits}
 use Rattle.theory.proofs.Accepted.{accepted_graph, sound_verdict, accepted_verdict}
 use Rattle.theory.proofs.Longest.{longest_exists}
@@ -24,6 +22,7 @@ use Rattle.theory.proofs.ListPlans.{listed_checked}
 use Rattle.theory.proofs.OneReply.{one_judged}
 use Rattle.theory.proofs.Alterations.{altered_sound, end_no_later}
 use Rattle.theory.proofs.Dropping.{dropped_altered}
+use Rattle.std.specs.Prelude.{Ok}
 
 -- what demand 3 promises of a graph on M processors with deadline D
 pub record InTime (times : List ℕ) (arrows : List (List ℕ)) (M D : ℕ) : Type 0 where
@@ -34,10 +33,10 @@ pub record InTime (times : List ℕ) (arrows : List (List ℕ)) (M D : ℕ) : Ty
   pub answered : (answer : Answer) × IsAnswer times arrows M D answer
   pub fits : (answer : Answer) → IsAnswer times arrows M D answer → SaysFits answer
   -- every accepted plan ends by D
-  pub ends : (plan : List Entry) (E : ℕ) → IsChecked times arrows M plan (Ends E) → E ≤ D
+  pub ends : (plan : List Entry) (E : ℕ) → IsChecked times arrows M plan (Ok E) → E ≤ D
 
 -- "fits" says that the sure end is D or before
-fits_end : (times : List ℕ) (arrows : List (List ℕ)) (M D : ℕ) (figures : Figures) (spare : ℕ) → IsOutcome times arrows M D figures (Judged (Fits spare))
+fits_end : (times : List ℕ) (arrows : List (List ℕ)) (M D : ℕ) (figures : Figures) (spare : ℕ) → IsOutcome times arrows M D figures (Ok (Fits spare))
     → Accepted (verdict_rows times arrows M D) × ((P : ℕ) × IsLongest times arrows P × (sure_end (bound (total_work times) P M) M ≤ D))
 unfolding IsOutcome IsVerdict
 fits_end times arrows M D figures spare (a, f, v) =
@@ -51,7 +50,7 @@ unfolding IsOutcome IsVerdict
 end_fits times arrows M D P a l f = (
   record {
     figures = record { c = total_work times; p = P; s = bound (total_work times) P M; load = load_of (total_work times) M D };
-    outcome = Judged (Fits (D - sure_end (bound (total_work times) P M) M));
+    outcome = Ok (Fits (D - sure_end (bound (total_work times) P M) M));
   },
   (a, record { work = refl; path = l; sum = refl; load_is = refl }, (f, refl)),
   (D - sure_end (bound (total_work times) P M) M, refl),
@@ -89,5 +88,5 @@ demand_three_dropped times arrows M D answer times' arrows' M' is says same shor
 
 -- and the list plan, which is an accepted one, ends by D too
 pub list_plan_in_time : (times : List ℕ) (arrows : List (List ℕ)) (M D : ℕ) (order : List ℕ) (before after : List Entry) (E : ℕ) → InTime times arrows M D
-    → IsListed times arrows M order before after (Ends E) → E ≤ D
+    → IsListed times arrows M order before after (Ok E) → E ≤ D
 list_plan_in_time times arrows M D order before after E t h = t.ends (take (length times) after) E (listed_checked times arrows M order before after E h)

@@ -6,7 +6,7 @@ use Prim.Native.Nat.{ℕ, ◌≤◌, ◌<◌}
 use native.Mathlib.Omega.{arith}
 use native.Mathlib.Decide.{dec_le}
 use lib.ListN.{length, get_or, take, drop, replicate}
-use Rattle.terms.specs.Rows.{Accepted, refusal_at, refusal_of}
+use Rattle.terms.specs.Rows.{Accepted, place_of}
 use Rattle.terms.specs.Graphs.{IsSubtask, time_of}
 use Rattle.terms.specs.Verdicts.{sure_end, IsVerdict}
 use Rattle.terms.specs.Plans.{at, not_placed, processor_of, start_of, end_of, Placed, RunsAt}
@@ -20,10 +20,9 @@ use Rattle.terms.specs.Writings.{decimal_in, decimal, further, line, text_of, wi
 use Rattle.terms.specs.Texts.{all_pass, lines, fields, value_from, proper, numbers}
 use Rattle.terms.specs.declared.Entry.{Entry}
 use Rattle.terms.specs.declared.Refusal.{Refusal}
+use Rattle.terms.specs.declared.Refusal.TheVariants.{TimeZero}
 use Rattle.terms.specs.declared.Figures.{Figures}
 use Rattle.terms.specs.declared.Verdict.{Verdict}
-use Rattle.terms.specs.declared.PlanEnd.{PlanEnd}
-use Rattle.terms.specs.declared.Outcome.TheVariants.{Judged}
 use Rattle.terms.specs.declared.Verdict.TheVariants.{Fits, Late}
 use Rattle.theory.proofs.Accepted.{read_accepted, busy_plan, accepted_plan, accepted_verdict}
 use Rattle.theory.proofs.Paths.{one_longest}
@@ -32,46 +31,40 @@ use Rattle.terms.proofs.PlacedRefusals.{placed_refusals}
 use Rattle.theory.proofs.Answers.{one_refusal, not_both, accepted_join}
 use Rattle.theory.proofs.TwoSubtasks.{none_precedes, both, first, second, pair_sound, pair_longest, pair_total, in_turn, pair_order, one_processor}
 use Rattle.theory.proofs.TwoSubtasks.{pair_figures, pair_listed, short, short_sound, short_accepted, turns, turns_busy}
-use Rattle.terms.specs.declared.Check.TheVariants as check
-use Rattle.terms.specs.declared.Measure.TheVariants as measure
-use Rattle.terms.specs.declared.Amount.TheVariants as amount
-use Rattle.terms.specs.declared.Outcome.TheVariants as outcome
-use Rattle.terms.specs.declared.PlanEnd.TheVariants as plan_end
-use Rattle.terms.specs.declared.Counts.TheVariants as counts
-use Rattle.terms.specs.declared.Written.TheVariants as written
+use Rattle.std.specs.Prelude.{Result, Ok, Err}
 
 -- ---- refuses everything: two times 1, no arrows, M = 1, D = 2
 
-pub refuses_graph : (r : Refusal) → ¬ IsCheck (graph_rows short []) (check.Refused r)
+pub refuses_graph : (r : Refusal) → ¬ IsCheck (graph_rows short []) (Err r)
 unfolding IsCheck
 refuses_graph r h = not_both (graph_rows short []) r short_accepted h
 
-pub refuses_measure : (r : Refusal) → ¬ IsMeasure (graph_rows short []) short [] (measure.Refused r)
+pub refuses_measure : (r : Refusal) → ¬ IsMeasure (graph_rows short []) short [] (Err r)
 unfolding IsMeasure
 refuses_measure r h = not_both (graph_rows short []) r short_accepted h
 
-pub refuses_total_work : (r : Refusal) → ¬ IsTotalWork short [] (amount.Refused r)
+pub refuses_total_work : (r : Refusal) → ¬ IsTotalWork short [] (Err r)
 unfolding IsTotalWork
 refuses_total_work r h = not_both (graph_rows short []) r short_accepted h
 
-pub refuses_longest_path : (r : Refusal) → ¬ IsLongestPath short [] (amount.Refused r)
+pub refuses_longest_path : (r : Refusal) → ¬ IsLongestPath short [] (Err r)
 unfolding IsLongestPath
 refuses_longest_path r h = not_both (graph_rows short []) r short_accepted h
 
-pub refuses_verdict : (figures : Figures) (r : Refusal) → ¬ IsOutcome short [] 1 2 figures (outcome.Refused r)
+pub refuses_verdict : (figures : Figures) (r : Refusal) → ¬ IsOutcome short [] 1 2 figures (Err r)
 unfolding IsOutcome
 refuses_verdict figures r h =
     not_both (verdict_rows short [] 1 2) r (accepted_verdict short [] 1 2 short_sound one_processor (record { low = omega arith; high = omega arith })) h.0
 
 pair_refused : (t u : ℕ) (before after : List Entry) (r : Refusal) → 1 ≤ t → 1 ≤ u → 2 ≤ length before
-    → ¬ IsListed (t ∷ u ∷ []) [] 1 in_turn before after (plan_end.Refused r)
+    → ¬ IsListed (t ∷ u ∷ []) [] 1 in_turn before after (Err r)
 unfolding IsListed
 pair_refused t u before after r l m room h = not_both (list_rows (t ∷ u ∷ []) [] 1 in_turn (length before)) r (pair_listed t u (length before) l m room) h.0
 
-pub refuses_list_plan : (before after : List Entry) (r : Refusal) → 2 ≤ length before → ¬ IsListed short [] 1 in_turn before after (plan_end.Refused r)
+pub refuses_list_plan : (before after : List Entry) (r : Refusal) → 2 ≤ length before → ¬ IsListed short [] 1 in_turn before after (Err r)
 refuses_list_plan before after r room = pair_refused 1 1 before after r (omega arith) (omega arith) room
 
-pub refuses_plan_check : (r : Refusal) → ¬ IsChecked short [] 1 turns (plan_end.Refused r)
+pub refuses_plan_check : (r : Refusal) → ¬ IsChecked short [] 1 turns (Err r)
 unfolding IsChecked
 refuses_plan_check r h = not_both (check_rows short [] 1 turns) r (accepted_plan short [] 1 turns short_sound turns_busy) h
 
@@ -84,10 +77,10 @@ text_reads : read_text 256 2048 text ≡ graph short []
 unfolding read_text read_lines entry_line task_lines exit_line trailer with_task is_task is_shape is_first is_size is_entry_dummy is_exit_dummy may_follow arrows_into lines fields all_pass value_from proper numbers
 text_reads = refl
 
-pub refuses_text : (times_row : List ℕ) (arrows_row : List (List ℕ)) (r : Refusal) → ¬ IsRead 256 2048 text times_row arrows_row (counts.Refused r)
+pub refuses_text : (times_row : List ℕ) (arrows_row : List (List ℕ)) (r : Refusal) → ¬ IsRead 256 2048 text times_row arrows_row (Err r)
 unfolding IsReplyTo
 refuses_text times_row arrows_row r h =
-    let q : IsReplyTo (graph short []) 256 2048 times_row arrows_row (counts.Refused r) = rw text_reads at h in
+    let q : IsReplyTo (graph short []) 256 2048 times_row arrows_row (Err r) = rw text_reads at h in
     not_both (time_and_arrow_rows short []) r (read_accepted short [] short_accepted) q.0
 
 -- their text as the writer has it: "2", "0 0 0", "1 1 1 0", "2 1 1 0", "3 0 2 1 2"
@@ -95,7 +88,7 @@ text_size : length (stg_text short []) ≡ 34
 unfolding stg_text stg_lines text_of line further decimal decimal_in with_count subtask_lines exit_numbers lasts_of passing has_arrow
 text_size = refl
 
-pub refuses_writing : (before after : List ℕ) (r : Refusal) → 34 ≤ length before → ¬ IsWritten short [] before after (written.Refused r)
+pub refuses_writing : (before after : List ℕ) (r : Refusal) → 34 ≤ length before → ¬ IsWritten short [] before after (Err r)
 unfolding IsWritten write_rows Accepted
 refuses_writing before after r room h =
     let fits : ¬ (length before < length (stg_text short [])) = λ l. omega (arith, text_size) in
@@ -106,27 +99,27 @@ refuses_writing before after r room h =
 abbrev pub uneven : List ℕ
 uneven = 1 ∷ 2 ∷ []
 
-pub calls_late : (figures : Figures) (shortfall : ℕ) → ¬ IsOutcome uneven [] 2 2 figures (Judged (Late shortfall))
+pub calls_late : (figures : Figures) (shortfall : ℕ) → ¬ IsOutcome uneven [] 2 2 figures (Ok (Late shortfall))
 unfolding IsOutcome IsVerdict sure_end
 calls_late figures shortfall (a, f, v) = omega (arith, v.0, (pair_figures 1 2 2 2 figures (omega arith) f).2)
 
 -- ---- always says "fits": two times 1, no arrows, M = 1, D = 1
 
-pub calls_fits : (figures : Figures) (spare : ℕ) → ¬ IsOutcome short [] 1 1 figures (Judged (Fits spare))
+pub calls_fits : (figures : Figures) (spare : ℕ) → ¬ IsOutcome short [] 1 1 figures (Ok (Fits spare))
 unfolding IsOutcome IsVerdict sure_end
 calls_fits figures spare (a, f, v) = omega (arith, v.0, (pair_figures 1 1 1 1 figures (omega arith) f).2)
 
 -- ---- makes up C, P or S: times 1 and 2, no arrows, M = 2, D = 3
 
-pub makes_up_C : (C : ℕ) → IsTotalWork uneven [] (amount.Is C) → C ≡ 3
+pub makes_up_C : (C : ℕ) → IsTotalWork uneven [] (Ok C) → C ≡ 3
 unfolding IsTotalWork
 makes_up_C C h = h.1 ∙ pair_total 1 2
 
-pub makes_up_P : (P : ℕ) → IsLongestPath uneven [] (amount.Is P) → P ≡ 2
+pub makes_up_P : (P : ℕ) → IsLongestPath uneven [] (Ok P) → P ≡ 2
 unfolding IsLongestPath
 makes_up_P P h = one_longest P 2 h.1 (pair_longest 1 2 (omega arith))
 
-pub makes_up_S : (figures : Figures) (verdict : Verdict) → IsOutcome uneven [] 2 3 figures (Judged verdict)
+pub makes_up_S : (figures : Figures) (verdict : Verdict) → IsOutcome uneven [] 2 3 figures (Ok verdict)
     → (figures.c ≡ 3) × (figures.p ≡ 2) × (figures.s ≡ 5)
 unfolding IsOutcome
 makes_up_S figures verdict (a, f, v) = pair_figures 1 2 2 3 figures (omega arith) f
@@ -153,21 +146,21 @@ long_late plan p a b =
     v.apart 1 2 1 first second (λ e. omega arith) (omega (arith, v.range 1 first x, v.range 2 second y))
     (record { placed = x; begun = a; unended = omega arith }) (record { placed = y; begun = b; unended = omega arith })
 
-pub returns_same_plan : (before after : List Entry) (a b : PlanEnd) → 2 ≤ length before → IsListed short [] 1 in_turn before after a
+pub returns_same_plan : (before after : List Entry) (a b : Result ℕ Refusal) → 2 ≤ length before → IsListed short [] 1 in_turn before after a
     → ¬ IsListed long [] 1 in_turn before after b
 unfolding IsListed
-returns_same_plan before after (plan_end.Ends E) (plan_end.Ends F) room p q =
+returns_same_plan before after (Ok E) (Ok F) room p q =
     let e = short_early (take 2 after) p.1.plan in
     long_late (take 2 after) q.1.plan (e 1 first) (e 2 second)
-returns_same_plan before after (plan_end.Refused a) b room p q = pair_refused 1 1 before after a (omega arith) (omega arith) room p
-returns_same_plan before after (plan_end.Ends E) (plan_end.Refused b) room p q = pair_refused 2 2 before after b (omega arith) (omega arith) room q
+returns_same_plan before after (Err a) b room p q = pair_refused 1 1 before after a (omega arith) (omega arith) room p
+returns_same_plan before after (Ok E) (Err b) room p q = pair_refused 2 2 before after b (omega arith) (omega arith) room q
 
 -- ---- writes no plan: two times 1, a row of two entries that are not placed
 
 abbrev pub blank : List Entry
 blank = not_placed ∷ not_placed ∷ []
 
-pub writes_no_plan : (E : ℕ) → ¬ IsListed short [] 1 in_turn blank blank (plan_end.Ends E)
+pub writes_no_plan : (E : ℕ) → ¬ IsListed short [] 1 in_turn blank blank (Ok E)
 unfolding IsListed processor_of
 writes_no_plan E h = let x : 1 ≤ processor_of blank 1 = h.1.plan.all 1 first in omega arith
 
@@ -186,11 +179,11 @@ moves_clock plan r j s = by_cases (dec_le 1 (processor_of plan j)) (λ l. l)
 abbrev pub gap : List Entry
 gap = at 1 0 ∷ at 1 2 ∷ []
 
-pub lists_gap : (before : List Entry) (E : ℕ) → ¬ IsListed short [] 1 in_turn before gap (plan_end.Ends E)
+pub lists_gap : (before : List Entry) (E : ℕ) → ¬ IsListed short [] 1 in_turn before gap (Ok E)
 unfolding IsListed start_of
 lists_gap before E h = let x : start_of gap 2 ≤ 1 = short_early gap h.1.plan 2 second in omega arith
 
-pub checks_gap : (E : ℕ) → ¬ IsChecked short [] 1 gap (plan_end.Ends E)
+pub checks_gap : (E : ℕ) → ¬ IsChecked short [] 1 gap (Ok E)
 unfolding IsChecked start_of end_of time_of
 checks_gap E h = (busy_plan short [] 1 gap h.0).1.busy 1 (record {
   subtask = 2;
@@ -203,13 +196,13 @@ checks_gap E h = (busy_plan short [] 1 gap h.0).1.busy 1 (record {
 
 -- ---- writes nothing
 
-pub writes_nothing : (before after : List ℕ) → ¬ IsWritten short [] before after (written.Bytes 0)
+pub writes_nothing : (before after : List ℕ) → ¬ IsWritten short [] before after (Ok 0)
 unfolding IsWritten
 writes_nothing before after h = omega (arith, text_size, h.1)
 
 -- ---- clears the rest of the room: 35 bytes, all of them 7 before, of which the text takes 34
 
-pub clears_rest : (k : ℕ) → ¬ IsWritten short [] (replicate 35 7) (stg_text short [] ++ 0 ∷ []) (written.Bytes k)
+pub clears_rest : (k : ℕ) → ¬ IsWritten short [] (replicate 35 7) (stg_text short [] ++ 0 ∷ []) (Ok k)
 unfolding IsWritten
 clears_rest k (a, n, h) =
     let rest = rw (n, text_size) at (append_cancel_left (stg_text short []) (0 ∷ []) (drop k (replicate 35 7)) h) in
@@ -218,9 +211,9 @@ clears_rest k (a, n, h) =
 
 -- ---- gives no place: times 1, 0 and 0, which are refused by 2 at subtask 2
 
-pub drops_places : (k : ℕ) → ¬ IsCheck (graph_rows (1 ∷ 0 ∷ 0 ∷ []) []) (check.Refused (refusal_of k))
+pub drops_places : (r : Refusal) → place_of r ≡ 0 → ¬ IsCheck (graph_rows (1 ∷ 0 ∷ 0 ∷ []) []) (Err r)
 unfolding IsCheck
-drops_places k h =
-    let same = one_refusal (graph_rows (1 ∷ 0 ∷ 0 ∷ []) []) (refusal_of k) (refusal_at 2 2 0) h placed_refusals.two in
-    let z : ◌≡◌ {A = ℕ} 0 2 = ap (λ (r : Refusal). r.place) same in
-    omega arith
+drops_places r none h =
+    let same = one_refusal (graph_rows (1 ∷ 0 ∷ 0 ∷ []) []) r (TimeZero 2) h placed_refusals.two in
+    let z = ap place_of same in
+    omega (arith, z, none)

@@ -9,9 +9,9 @@ use Rattle.terms.specs.Plans.{end_of, EndsAt}
 use Rattle.terms.specs.Refusals.{check_rows}
 use Rattle.terms.specs.Replies.{IsChecked}
 use Rattle.terms.specs.declared.Entry.{Entry}
-use Rattle.terms.specs.declared.PlanEnd.TheVariants.{Ends}
 use Rattle.theory.proofs.Accepted.{busy_plan}
 use Rattle.theory.proofs.Search.{largest}
+use Rattle.std.specs.Prelude.{Ok}
 
 -- the largest end of a subtask
 pub ends : (times : List ℕ) (plan : List Entry) → 1 ≤ length times → (E : ℕ) × EndsAt times plan E
@@ -26,6 +26,6 @@ one_end times plan E F e f =
 
 -- so the plan check has a reply for every plan that it accepts
 pub checked_exists : (times : List ℕ) (arrows : List (List ℕ)) (M : ℕ) (plan : List Entry) → Accepted (check_rows times arrows M plan)
-    → (E : ℕ) × IsChecked times arrows M plan (Ends E)
+    → (E : ℕ) × IsChecked times arrows M plan (Ok E)
 unfolding IsChecked
 checked_exists times arrows M plan a = let e = ends times plan (busy_plan times arrows M plan a).0.count.low in (e.0, (a, e.1))

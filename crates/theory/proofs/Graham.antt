@@ -14,7 +14,6 @@ use Rattle.terms.specs.Verdicts.{bound, sure_end}
 use Rattle.terms.specs.Plans.{start_of, end_of, EndsAt, ReadyAt, FreeAt}
 use Rattle.terms.specs.Replies.{IsChecked}
 use Rattle.terms.specs.declared.Entry.{Entry}
-use Rattle.terms.specs.declared.PlanEnd.TheVariants.{Ends}
 use Rattle.theory.specs.Sound.{SoundGraph}
 use Rattle.theory.proofs.SoundPlans.{BusyPlan}
 use Rattle.theory.proofs.Accepted.{from_subtask, busy_plan}
@@ -25,6 +24,7 @@ use Rattle.theory.proofs.Search.{search, LastOrNone, last, strong}
 use Rattle.theory.proofs.Running.{dec_precedes, running, counted, running_sum, free_when_fewer}
 use Rattle.theory.proofs.NoGap.{some_runs}
 use Rattle.theory.proofs.Bounds.{bound_mono, at_most_sure_end}
+use Rattle.std.specs.Prelude.{Ok}
 
 module _ (times : List ℕ) (arrows : List (List ℕ)) (M : ℕ) (plan : List Entry) (g : SoundGraph times arrows) (a : BusyPlan times arrows M plan) where
   -- where a processor is free at t, a subtask that starts later is held back by a predecessor that ends after t: else it were ready
@@ -124,14 +124,14 @@ module _ (times : List ℕ) (arrows : List (List ℕ)) (M : ℕ) (plan : List En
       omega (arith, x.2, bound_mono (total_work times) (weight x.1) P M (q.most x.0 x.1))
 
 -- the bound over the promises: where the plan check replies E, M × E is at most S
-pub graham_bound : (times : List ℕ) (arrows : List (List ℕ)) (M : ℕ) (plan : List Entry) (E P : ℕ) → IsChecked times arrows M plan (Ends E)
+pub graham_bound : (times : List ℕ) (arrows : List (List ℕ)) (M : ℕ) (plan : List Entry) (E P : ℕ) → IsChecked times arrows M plan (Ok E)
     → IsLongest times arrows P
     → M * E ≤ bound (total_work times) P M
 unfolding IsChecked
 graham_bound times arrows M plan E P c l = let b = busy_plan times arrows M plan c.0 in graham times arrows M plan b.0 b.1 E P c.1 l
 
 -- and so in whole microseconds: every accepted plan ends at S / M rounded down or before
-pub ends_by_sure_end : (times : List ℕ) (arrows : List (List ℕ)) (M : ℕ) (plan : List Entry) (E P : ℕ) → IsChecked times arrows M plan (Ends E)
+pub ends_by_sure_end : (times : List ℕ) (arrows : List (List ℕ)) (M : ℕ) (plan : List Entry) (E P : ℕ) → IsChecked times arrows M plan (Ok E)
     → IsLongest times arrows P
     → E ≤ sure_end (bound (total_work times) P M) M
 unfolding IsChecked

@@ -13,14 +13,13 @@ use Rattle.terms.specs.Replies.{IsJoined, IsJoin, IsNestMeasure}
 use Rattle.terms.specs.declared.Refusal.{Refusal}
 use Rattle.terms.specs.declared.Weights.{Weights}
 use Rattle.terms.specs.declared.GraphSize.{GraphSize}
-use Rattle.terms.specs.declared.Counts.TheVariants as counts
-use Rattle.terms.specs.declared.Measure.TheVariants as measure
 use Rattle.theory.specs.Joined.{IsAccepted}
 use Rattle.theory.proofs.Answers.{not_both}
 use Rattle.theory.proofs.Accepted.{accepted_graph}
 use Rattle.theory.proofs.JoinedReplies.{accepted_joins}
 use Rattle.theory.proofs.OneNest.{one_nest, not_refused}
 use Rattle.theory.proofs.TwoSubtasks.{loose_sound}
+use Rattle.std.specs.Prelude.{Ok, Err}
 
 -- ---- joins: two graphs of one subtask of time 1
 
@@ -43,7 +42,7 @@ one_arrow_lem = refl
 
 -- refuses everything: there is room for two times and an arrow
 pub refuses_join : (times₀ times : List ℕ) (arrows₀ arrows : List (List ℕ)) (r : Refusal) → 2 ≤ length times₀ → 1 ≤ length arrows₀
-    → ¬ IsJoin end_to_end lone lone times₀ arrows₀ times arrows (counts.Refused r)
+    → ¬ IsJoin end_to_end lone lone times₀ arrows₀ times arrows (Err r)
 unfolding IsJoined
 refuses_join times₀ times arrows₀ arrows r l m h =
     let a : length (joined end_to_end lone lone).arrows ≡ 1 = ap (λ (g : Graph). length g.arrows) one_arrow_lem in
@@ -54,13 +53,13 @@ refuses_join times₀ times arrows₀ arrows r l m h =
 
 -- leaves the graphs apart: replies that there is no arrow
 pub leaves_apart : (times₀ times : List ℕ) (arrows₀ arrows : List (List ℕ)) (subtasks : ℕ)
-    → ¬ IsJoin end_to_end lone lone times₀ arrows₀ times arrows (counts.Read (record { subtasks = subtasks; arrows = 0 }))
+    → ¬ IsJoin end_to_end lone lone times₀ arrows₀ times arrows (Ok (record { subtasks = subtasks; arrows = 0 }))
 unfolding IsJoined
 leaves_apart times₀ times arrows₀ arrows subtasks h = omega (arith, h.2, ap (λ (g : Graph). length g.arrows) one_arrow_lem)
 
 -- joins nothing: the rows stay as they were, with the times 7 and 7
 pub joins_nothing : (arrows : List (List ℕ)) (counted : GraphSize)
-    → ¬ IsJoin side_by_side lone lone (7 ∷ 7 ∷ []) arrows (7 ∷ 7 ∷ []) arrows (counts.Read counted)
+    → ¬ IsJoin side_by_side lone lone (7 ∷ 7 ∷ []) arrows (7 ∷ 7 ∷ []) arrows (Ok counted)
 unfolding IsJoined
 joins_nothing arrows counted h = let z : ◌≡◌ {A = ℕ} 7 1 = ap (λ (l : List ℕ). get_or l 0 0) h.3 in omega arith
 
@@ -83,11 +82,11 @@ five_is = record {
 }
 
 -- refuses everything
-pub refuses_nest : (r : Refusal) → ¬ IsNestMeasure five (measure.Refused r)
+pub refuses_nest : (r : Refusal) → ¬ IsNestMeasure five (Err r)
 unfolding IsNestMeasure
 refuses_nest r h = not_refused five five_nest r five_is h
 
 -- makes up C and P
-pub makes_up_nest : (weights : Weights) → IsNestMeasure five (measure.Is weights) → (weights.c ≡ 5) × (weights.p ≡ 3)
+pub makes_up_nest : (weights : Weights) → IsNestMeasure five (Ok weights) → (weights.c ≡ 5) × (weights.p ≡ 3)
 unfolding IsNestMeasure work_of path_of
 makes_up_nest weights (n, q, e, f) = let same = one_nest five n five_nest q five_is in (e ∙ ap work_of same, f ∙ ap path_of same)

@@ -11,12 +11,12 @@ use Rattle.terms.specs.ListRule.{IsOrder, IsListPlan}
 use Rattle.terms.specs.Refusals.{graph_rows, list_rows, check_rows}
 use Rattle.terms.specs.Replies.{IsListed, IsChecked}
 use Rattle.terms.specs.declared.Entry.{Entry}
-use Rattle.terms.specs.declared.PlanEnd.TheVariants.{Ends}
 use Rattle.theory.proofs.Accepted.{sound_graph, accepted_graph, accepted_plan, sound_list}
 use Rattle.theory.proofs.Work.{total_small}
 use Rattle.theory.proofs.Ends.{ends}
 use Rattle.theory.proofs.ListRule.{by_rule, list_busy}
 use Rattle.theory.proofs.ListExists.{list_exists}
+use Rattle.std.specs.Prelude.{Ok}
 
 -- a row of a front and a rest, at the seam
 seam : (front rest : List Entry) (n : ℕ) → length front ≡ n → (take n (front ++ rest) ≡ front) × (drop n (front ++ rest) ≡ rest)
@@ -43,7 +43,7 @@ module _ (times : List ℕ) (arrows : List (List ℕ)) (M : ℕ) (order : List �
 
   -- so the list plan has a reply that ends, and a row to leave, for every input that it accepts
   pub listed_exists : (before : List Entry) → In16Bits times → Accepted (list_rows times arrows M order (length before))
-      → (after : List Entry) × (E : ℕ) × IsListed times arrows M order before after (Ends E)
+      → (after : List Entry) × (E : ℕ) × IsListed times arrows M order before after (Ok E)
   unfolding IsListed IsChecked
   listed_exists before bits a =
       let s = sound_list times arrows M order (length before) a in
@@ -53,7 +53,7 @@ module _ (times : List ℕ) (arrows : List (List ℕ)) (M : ℕ) (order : List �
       (p.0 ++ drop (length times) before, e.0, (a, record { plan = rw cut.0 p.1; past = cut.1; checked = rw cut.0 (p.2, e.1) }))
 
   -- where the list plan replies E, the plan check replies E for what it left in the row
-  pub listed_checked : (before after : List Entry) (E : ℕ) → IsListed times arrows M order before after (Ends E)
-      → IsChecked times arrows M (take (length times) after) (Ends E)
+  pub listed_checked : (before after : List Entry) (E : ℕ) → IsListed times arrows M order before after (Ok E)
+      → IsChecked times arrows M (take (length times) after) (Ok E)
   unfolding IsListed
   listed_checked before after E (a, h) = h.checked

@@ -10,14 +10,14 @@ use Rattle.terms.specs.Joins.{Graph, Way, end_to_end, side_by_side, joined, With
 use Rattle.terms.specs.Nests.{Members, Nest, count, work_of, together, path_of, Ruled, IsNest}
 use Rattle.terms.specs.NestGraphs.{ahead, whole, HasWeights, Carries, carries_none, carries_graph, carries_opener}
 use Rattle.terms.specs.declared.Weights.{Weights}
-use Rattle.terms.specs.declared.Measure.{Measure}
-use Rattle.terms.specs.declared.Measure.TheVariants as measure
 use Rattle.theory.specs.Joined.{Faultless}
 use Rattle.theory.proofs.Faultless.{accepted_faultless, accepted}
 use Rattle.theory.proofs.JoinedSound.{joined_faultless, joined_work}
 use Rattle.theory.proofs.JoinedPaths.{longest_end_to_end, longest_side_by_side}
 use Rattle.theory.proofs.Together.{together_none}
 use Rattle.theory.proofs.OneNest.{one_nest, not_refused}
+use Rattle.std.specs.Prelude.{Result, Ok, Err}
+use Rattle.terms.specs.declared.Refusal.{Refusal}
 
 -- a graph without fault, and its C and P
 record Weighs (g : Graph) (C P : ℕ) : Type 0 where
@@ -68,12 +68,12 @@ nest_weights row nest graphs n c l =
     record { accepted = accepted (whole graphs) w.faultless l; work = w.work; path = w.path }
 
 -- and the reply for the row is the reply that the joined graph has
-pub nest_measured : (row : List (List ℕ)) (nest : Nest) (graphs : Members Graph end_to_end) (r : Measure) → IsNestMeasure row r → IsNest row nest
+pub nest_measured : (row : List (List ℕ)) (nest : Nest) (graphs : Members Graph end_to_end) (r : Result Weights Refusal) → IsNestMeasure row r → IsNest row nest
     → Carries end_to_end graphs nest → WithinLimits (whole graphs)
     → IsMeasure (graph_rows (whole graphs).times (whole graphs).arrows) (whole graphs).times (whole graphs).arrows r
 unfolding IsNestMeasure IsMeasure
-nest_measured row nest graphs (measure.Is weights) (m, q, e, f) n c l =
+nest_measured row nest graphs (Ok weights) (m, q, e, f) n c l =
     let w = nest_weights row nest graphs n c l in
     let same = one_nest row m nest q n in
     (w.accepted, e ∙ ap work_of same ∙ sym w.work, rw (f ∙ ap path_of same) w.path)
-nest_measured row nest graphs (measure.Refused refusal) h n c l = not_refused row nest refusal n h
+nest_measured row nest graphs (Err refusal) h n c l = not_refused row nest refusal n h

@@ -11,11 +11,11 @@ use Rattle.terms.specs.Graphs.{Among}
 use Rattle.terms.specs.Arrangements.{stretch, row_of, Begins, Arranged}
 use Rattle.terms.specs.Refusals.{arrange_rows}
 use Rattle.terms.specs.Replies.{IsArranged}
-use Rattle.terms.specs.declared.Check.{Check}
-use Rattle.terms.specs.declared.Check.TheVariants as check
 use Rattle.theory.proofs.Answers.{one_refusal, not_both}
 use Rattle.theory.proofs.Accepted.{sound_arrange}
 use Rattle.theory.proofs.Ascending.{stretch_length, stretch_same}
+use Rattle.std.specs.Prelude.{Result, Ok, Err}
+use Rattle.terms.specs.declared.Refusal.{Refusal}
 
 -- going back from the last begin none is above it
 pub begin_within : {n a : ℕ} {begins : List ℕ} → Begins n a begins → (i j : ℕ) → i + j ≡ n → get_or begins i 0 ≤ a
@@ -78,11 +78,11 @@ front_same l l' m e b h d = sym (take-append-drop m l) ∙ ap₂ (λ (x y : List
         (λ x c. let k : x < m = omega (arith, c, long) in get_or-take m l x 0 k ∙ h x k ∙ sym (get_or-take m l' x 0 k))
 
 -- the reply, and both rows
-pub one_arranged : (wanted : ℕ → List ℕ) (times : List ℕ) (arrows : List (List ℕ)) (begins₀ numbers₀ begins numbers begins' numbers' : List ℕ) (r r' : Check)
+pub one_arranged : (wanted : ℕ → List ℕ) (times : List ℕ) (arrows : List (List ℕ)) (begins₀ numbers₀ begins numbers begins' numbers' : List ℕ) (r r' : Result (Unit {0}) Refusal)
     → IsArranged wanted times arrows begins₀ numbers₀ begins numbers r → IsArranged wanted times arrows begins₀ numbers₀ begins' numbers' r'
     → (r ≡ r') × (begins ≡ begins') × (numbers ≡ numbers')
 unfolding IsArranged
-one_arranged wanted times arrows begins₀ numbers₀ begins numbers begins' numbers' check.Sound check.Sound (p, h) (q, i) =
+one_arranged wanted times arrows begins₀ numbers₀ begins numbers begins' numbers' (Ok _) (Ok _) (p, h) (q, i) =
     let room = sound_arrange times arrows (length begins₀) (length numbers₀) p in (
       refl,
       front_same begins begins' (suc (length times)) (h.same_begins ∙ sym i.same_begins) (omega (arith, room.for_begins, h.same_begins))
@@ -91,9 +91,9 @@ one_arranged wanted times arrows begins₀ numbers₀ begins numbers begins' num
           (λ x l. number_same h.arranged i.arranged (length times) x (omega arith) (omega (arith, l, h.arranged.stand.last)))
           (h.past_numbers ∙ sym i.past_numbers),
     )
-one_arranged wanted times arrows begins₀ numbers₀ begins numbers begins' numbers' check.Sound (check.Refused b) p q =
+one_arranged wanted times arrows begins₀ numbers₀ begins numbers begins' numbers' (Ok _) (Err b) p q =
     not_both (arrange_rows times arrows (length begins₀) (length numbers₀)) b p.0 q.0
-one_arranged wanted times arrows begins₀ numbers₀ begins numbers begins' numbers' (check.Refused a) check.Sound p q =
+one_arranged wanted times arrows begins₀ numbers₀ begins numbers begins' numbers' (Err a) (Ok _) p q =
     not_both (arrange_rows times arrows (length begins₀) (length numbers₀)) a q.0 p.0
-one_arranged wanted times arrows begins₀ numbers₀ begins numbers begins' numbers' (check.Refused a) (check.Refused b) (p, e, d) (q, e', d') =
-    (ap check.Refused (one_refusal (arrange_rows times arrows (length begins₀) (length numbers₀)) a b p q), e ∙ sym e', d ∙ sym d')
+one_arranged wanted times arrows begins₀ numbers₀ begins numbers begins' numbers' (Err a) (Err b) (p, e, d) (q, e', d') =
+    (ap Err (one_refusal (arrange_rows times arrows (length begins₀) (length numbers₀)) a b p q), e ∙ sym e', d ∙ sym d')

@@ -14,10 +14,9 @@ use Rattle.terms.specs.Refusals.{nest_rows}
 use Rattle.terms.specs.Replies.{IsNestMeasure}
 use Rattle.terms.specs.declared.Refusal.{Refusal}
 use Rattle.terms.specs.declared.Weights.{Weights}
-use Rattle.terms.specs.declared.Measure.{Measure}
-use Rattle.terms.specs.declared.Measure.TheVariants as measure
 use Rattle.theory.proofs.Answers.{one_refusal}
 use Rattle.theory.proofs.Together.{together_le}
+use Rattle.std.specs.Prelude.{Result, Ok, Err}
 
 -- ---- entries
 
@@ -80,14 +79,14 @@ unfolding nest_rows RefusedBy
 not_refused row nest a n (inl g) = absurd (g.holds (record { nest = nest; is_nest = n }))
 not_refused row nest a n (inr (h, x)) = absurd x
 
-pub one_nest_measure : (row : List (List ℕ)) (a b : Measure) → IsNestMeasure row a → IsNestMeasure row b → a ≡ b
+pub one_nest_measure : (row : List (List ℕ)) (a b : Result Weights Refusal) → IsNestMeasure row a → IsNestMeasure row b → a ≡ b
 unfolding IsNestMeasure
-one_nest_measure row (measure.Is v) (measure.Is w) (m, p, c, d) (n, q, e, f) =
+one_nest_measure row (Ok v) (Ok w) (m, p, c, d) (n, q, e, f) =
     let same = one_nest row m n p q in
-    ap₂ (λ (x y : ℕ). measure.Is (record { c = x; p = y })) (c ∙ ap work_of same ∙ sym e) (d ∙ ap path_of same ∙ sym f)
-one_nest_measure row (measure.Is v) (measure.Refused b) (m, p, c, d) y = not_refused row m b p y
-one_nest_measure row (measure.Refused a) (measure.Is w) x (n, q, e, f) = not_refused row n a q x
-one_nest_measure row (measure.Refused a) (measure.Refused b) x y = ap measure.Refused (one_refusal (nest_rows row) a b x y)
+    ap₂ (λ (x y : ℕ). Ok (record { c = x; p = y })) (c ∙ ap work_of same ∙ sym e) (d ∙ ap path_of same ∙ sym f)
+one_nest_measure row (Ok v) (Err b) (m, p, c, d) y = not_refused row m b p y
+one_nest_measure row (Err a) (Ok w) x (n, q, e, f) = not_refused row n a q x
+one_nest_measure row (Err a) (Err b) x y = ap Err (one_refusal (nest_rows row) a b x y)
 
 -- ---- how large C and P are
 

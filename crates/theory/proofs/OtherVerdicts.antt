@@ -9,7 +9,6 @@ use Rattle.terms.specs.Replies.{IsAnswer, IsChecked}
 use Rattle.terms.specs.Alterations.{Altered, SaysFits}
 use Rattle.terms.specs.declared.Entry.{Entry}
 use Rattle.terms.specs.declared.Answer.{Answer}
-use Rattle.terms.specs.declared.PlanEnd.TheVariants.{Ends}
 use Rattle.terms.proofs.Examples.{times_g, arrows_g, order_g, shorter_g, fewer_g, ListPlanEnds, examples}
 use Rattle.terms.proofs.AlteredG.{altered_G, dropped_G}
 use Rattle.theory.specs.Sound.{SoundGraph}
@@ -17,11 +16,12 @@ use Rattle.theory.proofs.Accepted.{sound_graph}
 use Rattle.theory.proofs.Dropping.{dropped_altered}
 use Rattle.theory.proofs.ListPlans.{listed_checked}
 use Rattle.theory.proofs.DemandThree.{InTime, demand_three}
+use Rattle.std.specs.Prelude.{Ok}
 
 -- where a verdict says "fits" of a graph on M processors against D, every accepted plan of an altered graph ends by D
 abbrev pub GoesOn : (List ℕ → List (List ℕ) → ℕ → ℕ → Type 0) → Type 0
 GoesOn SaysSo = (times times' : List ℕ) (arrows arrows' : List (List ℕ)) (M M' D E : ℕ) (plan : List Entry)
-    → SaysSo times arrows M D → Altered times arrows M times' arrows' M' → IsChecked times' arrows' M' plan (Ends E) → E ≤ D
+    → SaysSo times arrows M D → Altered times arrows M times' arrows' M' → IsChecked times' arrows' M' plan (Ok E) → E ≤ D
 
 pub our_verdict_goes_on : GoesOn (λ times arrows M D. (answer : Answer) × IsAnswer times arrows M D answer × SaysFits answer)
 our_verdict_goes_on times times' arrows arrows' M M' D E plan (answer, is, says) altered checked =

@@ -6,12 +6,13 @@ use Prim.Native.Nat.{ℕ, ◌-◌}
 use native.Mathlib.Omega.{arith}
 use lib.ListN.{length}
 use Rattle.terms.specs.Graphs.{IsSubtask}
-use Rattle.terms.specs.Rows.{Smallest, IsAt, Row, RefusedBy, refusal_at}
+use Rattle.terms.specs.Rows.{Smallest, IsAt, Row, RefusedBy}
 use Rattle.terms.specs.Refusals.{SomeSubtask, SomeArrow, SubtaskAt, ArrowAt, PairAt, first_subtask, first_arrow, smallest_pair, lowest}
 use Rattle.terms.specs.declared.Refusal.{Refusal}
 use Rattle.theory.specs.First.{First, FirstSubtask}
+use Rattle.terms.proofs.Decisions.{Tells}
 use Rattle.theory.proofs.Firsts.{first_is, first_least}
-use Rattle.theory.proofs.Answers.{Passed, stop_given}
+use Rattle.theory.proofs.Answers.{Passed, stop_at}
 
 -- ---- what a scan answers is a place
 
@@ -44,28 +45,28 @@ subtask_at_lem Scanned IsSo e to back {r} f h =
 
 module _ {rows rest : List Row} {k : ℕ} {a : Refusal} where
   pub stop_subtask : {times : List ℕ} {IsSo : ℕ → Type 0} {r : ℕ} → Passed rows (first_subtask k times IsSo ∷ rest)
-      → Smallest (SubtaskAt times IsSo) r → a ≡ refusal_at k r 0 → RefusedBy rows a
+      → Smallest (SubtaskAt times IsSo) r → Tells a k r 0 → RefusedBy rows a
   unfolding IsAt
   stop_subtask {times} {IsSo} {r} p s e =
       let holds : SomeSubtask times IsSo = record { subtask = r; is_subtask = s.is_so.is_subtask; is_so = s.is_so.is_so } in
-      rw e (stop_given p (record { holds = holds; number_is = refl; spot_is = (s, refl) }))
+      stop_at p holds (s, refl) e
 
   pub stop_arrow : {arrows : List (List ℕ)} {IsSo : ℕ → Type 0} {r : ℕ} → Passed rows (first_arrow k arrows IsSo ∷ rest)
-      → Smallest (ArrowAt arrows IsSo) r → a ≡ refusal_at k r 0 → RefusedBy rows a
+      → Smallest (ArrowAt arrows IsSo) r → Tells a k r 0 → RefusedBy rows a
   unfolding IsAt
   stop_arrow {arrows} {IsSo} {r} p s e =
       let holds : SomeArrow arrows IsSo = record { place = r - 1; inside = omega (arith, s.is_so.position.low, s.is_so.position.high); is_so = s.is_so.is_so } in
-      rw e (stop_given p (record { holds = holds; number_is = refl; spot_is = (s, refl) }))
+      stop_at p holds (s, refl) e
 
   pub stop_pair : {times : List ℕ} {AreSo : ℕ → ℕ → Type 0} {i j : ℕ} → Passed rows (smallest_pair k times AreSo ∷ rest)
-      → Smallest (λ x. (y : ℕ) × PairAt times AreSo x y) i → Smallest (PairAt times AreSo i) j → a ≡ refusal_at k i j → RefusedBy rows a
+      → Smallest (λ x. (y : ℕ) × PairAt times AreSo x y) i → Smallest (PairAt times AreSo i) j → Tells a k i j → RefusedBy rows a
   unfolding IsAt
   stop_pair {times} {AreSo} {i} {j} p s t e =
       let two = t.is_so in
       let holds : SomeSubtask times (λ x. SomeSubtask times (AreSo x)) =
       record { subtask = i; is_subtask = two.lower; is_so = record { subtask = j; is_subtask = two.higher; is_so = two.are_so } } in
-      rw e (stop_given p (record { holds = holds; number_is = refl; spot_is = (s, t) }))
+      stop_at p holds (s, t) e
 
-  pub stop_lowest : {IsSo : ℕ → Type 0} {r : ℕ} → Passed rows (lowest k IsSo ∷ rest) → Smallest IsSo r → a ≡ refusal_at k r 0 → RefusedBy rows a
+  pub stop_lowest : {IsSo : ℕ → Type 0} {r : ℕ} → Passed rows (lowest k IsSo ∷ rest) → Smallest IsSo r → Tells a k r 0 → RefusedBy rows a
   unfolding IsAt
-  stop_lowest {r = r} p s e = rw e (stop_given p (record { holds = (r, s.is_so); number_is = refl; spot_is = (s, refl) }))
+  stop_lowest {r = r} p s e = stop_at p (r, s.is_so) (s, refl) e

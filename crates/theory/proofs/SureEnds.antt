@@ -13,19 +13,19 @@ use Rattle.terms.specs.Replies.{IsOutcome, IsAnswer, IsChecked}
 use Rattle.terms.specs.Alterations.{SaysFits}
 use Rattle.terms.specs.declared.Entry.{Entry}
 use Rattle.terms.specs.declared.Answer.{Answer}
-use Rattle.terms.specs.declared.PlanEnd.TheVariants.{Ends}
-use Rattle.terms.specs.declared.Outcome.{Outcome}
-use Rattle.terms.specs.declared.Outcome.TheVariants.{Judged, Refused}
 use Rattle.terms.specs.declared.Verdict.TheVariants.{Fits, Late}
 use Rattle.terms.proofs.Examples.{long_last, order_g, examples}
 use Rattle.theory.proofs.Answers.{not_both}
 use Rattle.theory.proofs.Accepted.{sound_verdict}
 use Rattle.theory.proofs.Bounds.{at_most_sure_end, sure_end_at_most}
 use Rattle.theory.proofs.ListPlans.{listed_checked}
+use Rattle.std.specs.Prelude.{Result, Ok, Err}
+use Rattle.terms.specs.declared.Verdict.{Verdict}
+use Rattle.terms.specs.declared.Refusal.{Refusal}
 
 -- example 14, on three processors: S / M is 5 1/3, and the list plan, an accepted one, ends at 5; so no earlier end could be promised
 pub sure_end_reached : IsLongest long_last [] 3
-    × ((plan : List Entry) × IsChecked long_last [] 3 plan (Ends (sure_end (bound (total_work long_last) 3 3) 3)))
+    × ((plan : List Entry) × IsChecked long_last [] 3 plan (Ok (sure_end (bound (total_work long_last) 3 3) 3)))
 sure_end_reached =
     let figures = examples.fourteen.0 in
     let listed = examples.fourteen.1 in
@@ -43,12 +43,12 @@ module _ (times : List ℕ) (arrows : List (List ℕ)) (M D : ℕ) (answer : Ans
   fits_exactly = (there, back answer.outcome is)
     where
       there : SaysFits answer → sure_end answer.figures.s M ≤ D
-      there (spare, e) = let h : IsOutcome times arrows M D answer.figures (Judged (Fits spare)) = rw e at is in h.2.0
+      there (spare, e) = let h : IsOutcome times arrows M D answer.figures (Ok (Fits spare)) = rw e at is in h.2.0
 
-      back : (o : Outcome) → IsOutcome times arrows M D answer.figures o → sure_end answer.figures.s M ≤ D → (spare : ℕ) × (o ≡ Judged (Fits spare))
-      back (Judged (Fits spare)) h l = (spare, refl)
-      back (Judged (Late shortfall)) h l = absurd (omega (arith, h.2.0))
-      back (Refused refusal) h l = absurd (not_both (verdict_rows times arrows M D) refusal asked h.0)
+      back : (o : Result Verdict Refusal) → IsOutcome times arrows M D answer.figures o → sure_end answer.figures.s M ≤ D → (spare : ℕ) × (o ≡ Ok (Fits spare))
+      back (Ok (Fits spare)) h l = (spare, refl)
+      back (Ok (Late shortfall)) h l = absurd (omega (arith, h.2.0))
+      back (Err refusal) h l = absurd (not_both (verdict_rows times arrows M D) refusal asked h.0)
 
   -- where M × D is at least S, it does
   pub fits_at_least : answer.figures.s ≤ M * D → SaysFits answer

@@ -14,8 +14,6 @@ use Rattle.terms.specs.Texts.{lines}
 use Rattle.terms.specs.Readings.{Reading, refuse, graph, read_lines, read_text, RowsHold, IsReplyTo, IsRead}
 use Rattle.terms.specs.Arrangements.{has_arrow, passing, predecessors_of, successors_of, is_none, lasts_of, sorted_by_to, SameArrows}
 use Rattle.terms.specs.Writings.{text_of, with_count, subtask_lines, exit_numbers, stg_lines, stg_text}
-use Rattle.terms.specs.declared.Counts.{Counts}
-use Rattle.terms.specs.declared.Counts.TheVariants as counts
 use Rattle.theory.specs.Sound.{SoundGraph}
 use Rattle.theory.proofs.Answers.{not_both}
 use Rattle.theory.proofs.Accepted.{sound_graph, read_accepted}
@@ -25,6 +23,9 @@ use Rattle.theory.proofs.LinesBack.{lines_text}
 use Rattle.theory.proofs.GraphBack.{rows_from, each_rows, Fits, read_graph}
 use Rattle.theory.proofs.TextLengths.{passing_few, times_small}
 use Rattle.theory.proofs.LongestText.{text_most}
+use Rattle.std.specs.Prelude.{Result, Ok, Err}
+use Rattle.terms.specs.declared.GraphSize.{GraphSize}
+use Rattle.terms.specs.declared.Refusal.{Refusal}
 
 -- ---- read again
 
@@ -33,17 +34,17 @@ fits_passing test n = record { short = passing_few test n; among = λ p h. (pass
 
 -- the reader accepts this graph: it replies the counts, and its rows hold the graph
 pub record ReadsAs (times_room arrows_room : ℕ) (times : List ℕ) (arrows : List (List ℕ)) (times_row : List ℕ) (arrows_row : List (List ℕ))
-    (reply : Counts) : Type 0 where
-  pub read : reply ≡ counts.Read (record { subtasks = length times; arrows = length arrows })
+    (reply : Result GraphSize Refusal) : Type 0 where
+  pub read : reply ≡ Ok (record { subtasks = length times; arrows = length arrows })
   pub held : RowsHold times_room arrows_room times arrows times_row arrows_row
 
-reads_as : (times_room arrows_room : ℕ) (times : List ℕ) (arrows : List (List ℕ)) (times_row : List ℕ) (arrows_row : List (List ℕ)) (reply : Counts)
+reads_as : (times_room arrows_room : ℕ) (times : List ℕ) (arrows : List (List ℕ)) (times_row : List ℕ) (arrows_row : List (List ℕ)) (reply : Result GraphSize Refusal)
     → Accepted (time_and_arrow_rows times arrows) → IsReplyTo (graph times arrows) times_room arrows_room times_row arrows_row reply
     → ReadsAs times_room arrows_room times arrows times_row arrows_row reply
 unfolding IsReplyTo
-reads_as times_room arrows_room times arrows times_row arrows_row (counts.Read size) a (b, n, m, h) =
-    record { read = ap₂ (λ (c d : ℕ). counts.Read (record { subtasks = c; arrows = d })) n m; held = h }
-reads_as times_room arrows_room times arrows times_row arrows_row (counts.Refused refusal) a (b, h) = not_both (time_and_arrow_rows times arrows) refusal a b
+reads_as times_room arrows_room times arrows times_row arrows_row (Ok size) a (b, n, m, h) =
+    record { read = ap₂ (λ (c d : ℕ). Ok (record { subtasks = c; arrows = d })) n m; held = h }
+reads_as times_room arrows_room times arrows times_row arrows_row (Err refusal) a (b, h) = not_both (time_and_arrow_rows times arrows) refusal a b
 
 module _ (times : List ℕ) (arrows : List (List ℕ)) (accepted : Accepted (graph_rows times arrows)) (small : In16Bits times) where
   sound : SoundGraph times arrows
@@ -72,7 +73,7 @@ module _ (times : List ℕ) (arrows : List (List ℕ)) (accepted : Accepted (gra
       le-leb (length (stg_text times arrows)) 60000 (omega (arith, text_most times arrows accepted small)),
     ) lines_back
 
-    pub text_read : (times_row : List ℕ) (arrows_row : List (List ℕ)) (reply : Counts)
+    pub text_read : (times_row : List ℕ) (arrows_row : List (List ℕ)) (reply : Result GraphSize Refusal)
         → IsRead times_room arrows_room (stg_text times arrows) times_row arrows_row reply
         → ReadsAs times_room arrows_room times (sorted_by_to (length times) arrows) times_row arrows_row reply
     text_read times_row arrows_row reply r = reads_as times_room arrows_room times (sorted_by_to (length times) arrows) times_row arrows_row reply

@@ -13,14 +13,15 @@ use Rattle.terms.specs.Readings.{IsRead}
 use Rattle.terms.specs.Arrangements.{sorted_by_to, SameArrows, Sorts}
 use Rattle.terms.specs.Writings.{stg_text}
 use Rattle.terms.specs.Replies.{IsWritten}
-use Rattle.terms.specs.declared.Counts.{Counts}
-use Rattle.terms.specs.declared.Written.TheVariants as written
 use Rattle.theory.proofs.Answers.{accepted_both}
 use Rattle.theory.proofs.SortedArrows.{sorts_by_to, accepted_by_to}
 use Rattle.theory.proofs.LongestText.{text_most}
 use Rattle.theory.proofs.TextBack.{ReadsAs, text_read, same_text, text_same}
+use Rattle.std.specs.Prelude.{Result, Ok}
+use Rattle.terms.specs.declared.GraphSize.{GraphSize}
+use Rattle.terms.specs.declared.Refusal.{Refusal}
 
-module _ (times : List ℕ) (arrows : List (List ℕ)) (before after : List ℕ) (k : ℕ) (wrote : IsWritten times arrows before after (written.Bytes k)) where
+module _ (times : List ℕ) (arrows : List (List ℕ)) (before after : List ℕ) (k : ℕ) (wrote : IsWritten times arrows before after (Ok k)) where
   -- only an accepted graph is written
   pub written_accepted : Accepted (graph_rows times arrows)
   unfolding IsWritten write_rows
@@ -39,7 +40,7 @@ module _ (times : List ℕ) (arrows : List (List ℕ)) (before after : List ℕ)
     written_most = omega (arith, wrote.1, text_most times arrows written_accepted small)
 
     -- what the reader over rows with room then holds: the same times, and the same arrows, sorted by "to" and then "from", accepted again
-    pub written_read : (times_room arrows_room : ℕ) (times_row : List ℕ) (arrows_row : List (List ℕ)) (reply : Counts) → 256 ≤ times_room → 2048 ≤ arrows_room
+    pub written_read : (times_room arrows_room : ℕ) (times_row : List ℕ) (arrows_row : List (List ℕ)) (reply : Result GraphSize Refusal) → 256 ≤ times_room → 2048 ≤ arrows_room
         → IsRead times_room arrows_room (take k after) times_row arrows_row reply
         → ReadsAs times_room arrows_room times (sorted_by_to (length times) arrows) times_row arrows_row reply
         × Sorts to_of from_of arrows (sorted_by_to (length times) arrows)
@@ -52,7 +53,7 @@ module _ (times : List ℕ) (arrows : List (List ℕ)) (before after : List ℕ)
 
 -- two graphs, each written into a room of its own
 module _ (times times' : List ℕ) (arrows arrows' : List (List ℕ)) (before after before' after' : List ℕ) (k k' : ℕ)
-    (wrote : IsWritten times arrows before after (written.Bytes k)) (wrote' : IsWritten times' arrows' before' after' (written.Bytes k')) where
+    (wrote : IsWritten times arrows before after (Ok k)) (wrote' : IsWritten times' arrows' before' after' (Ok k')) where
   pub same_written : times ≡ times' → SameArrows arrows arrows' → take k after ≡ take k' after'
   same_written e same =
       written_text times arrows before after k wrote

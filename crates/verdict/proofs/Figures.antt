@@ -4,21 +4,19 @@ use mathlib.Core.List.{List}
 use Prim.Native.Nat.{ℕ, ◌+◌, ◌-◌, ◌*◌, ◌≤◌}
 use native.Mathlib.Omega.{arith}
 use native.Mathlib.Nat.{mul-le-mul, mul-pos}
-use Rattle.terms.specs.Rows.{Accepted, RefusedBy}
+use Rattle.terms.specs.Rows.{RefusedBy}
 use Rattle.terms.specs.Graphs.{Among, IsSubtask, In16Bits}
-use Rattle.terms.specs.Refusals.{on_rows, deadline_rows, verdict_rows}
+use Rattle.terms.specs.Refusals.{verdict_rows}
 use Rattle.terms.specs.Replies.{IsMeasure, IsOutcome, IsAnswer}
 use Rattle.terms.specs.Paths.{alone, weight}
 use Rattle.terms.specs.Verdicts.{bound, no_figures}
 use Rattle.terms.specs.declared.Refusal.{Refusal}
 use Rattle.terms.specs.declared.Weights.{Weights}
-use Rattle.terms.specs.declared.Measure.TheVariants as measure
 use Rattle.terms.specs.declared.Answer.{Answer}
-use Rattle.terms.specs.declared.Outcome.TheVariants as outcome
-use Rattle.theory.proofs.Answers.{accepted_join}
 use Rattle.theory.proofs.Accepted.{sound_verdict}
 use Rattle.theory.proofs.Bounds.{measured_small, bound_small}
 use Rattle.verdict.specs.Judges.{Askable, Judges}
+use Rattle.std.specs.Prelude.{Ok, Err}
 
 -- ---- C and P of an accepted question
 module _ {C P M D : ℕ} (a : Askable C P M D) where
@@ -34,16 +32,12 @@ module _ {C P M D : ℕ} (a : Askable C P M D) where
       record { low = mul-pos a.processors.low a.deadline.low; high = omega arith }
 
 module _ (times : List ℕ) (arrows : List (List ℕ)) (M D : ℕ) where
-  -- ---- no row of the verdict holds
-  module _ (weights : Weights) (told : IsMeasure (on_rows times arrows M) times arrows (measure.Is weights)) (deadline : Accepted (deadline_rows D)) where
-    accepted : Accepted (verdict_rows times arrows M D)
-    unfolding IsMeasure verdict_rows
-    accepted = accepted_join (on_rows times arrows M) (deadline_rows D) told.0 deadline
-
+  -- ---- no row of the verdict holds, and C and P are measured
+  module _ (weights : Weights) (told : IsMeasure (verdict_rows times arrows M D) times arrows (Ok weights)) where
     pub askable : In16Bits times → Askable weights.c weights.p M D
     unfolding IsMeasure weight
     askable bits =
-        let sound = sound_verdict times arrows M D accepted in
+        let sound = sound_verdict times arrows M D told.0 in
         let small = measured_small weights.p sound.0 bits told.2 in
         let one : IsSubtask times 1 = record { low = omega arith; high = sound.0.count.low } in
         record {
@@ -60,13 +54,13 @@ module _ (times : List ℕ) (arrows : List (List ℕ)) (M D : ℕ) where
     pub judged : {answer : Answer} → Judges weights.c weights.p M D answer → IsAnswer times arrows M D answer
     unfolding IsMeasure IsOutcome
     judged j = rw (j.outcome_is, j.figures_are) (
-      accepted,
+      told.0,
       record { work = told.1; path = told.2; sum = refl; load_is = refl },
       j.verdict_is,
     )
 
   -- ---- the answer with a refusal
-  pub refused_answer : {refusal : Refusal} {answer : Answer} → (answer.figures ≡ no_figures) × (answer.outcome ≡ outcome.Refused refusal)
+  pub refused_answer : {refusal : Refusal} {answer : Answer} → (answer.figures ≡ no_figures) × (answer.outcome ≡ Err refusal)
       → RefusedBy (verdict_rows times arrows M D) refusal → IsAnswer times arrows M D answer
   unfolding IsOutcome
   refused_answer (none, is) r = rw is (r, none)

@@ -1,10 +1,9 @@
 -- The step from C and P to the verdict.
-use Rattle.std.specs.Prelude.{◌≡◌, ℕ, ◌≤◌}
+use Rattle.std.specs.Prelude.{◌≡◌, ℕ, ◌≤◌, Ok}
 use Rattle.terms.specs.Graphs.{Among}
 use Rattle.terms.specs.Verdicts.{bound, load_of, IsVerdict}
 use Rattle.terms.specs.declared.Answer.{Answer}
 use Rattle.terms.specs.declared.Verdict.{Verdict}
-use Rattle.terms.specs.declared.Outcome.TheVariants as outcome
 
 -- C and P as measured of a graph that is accepted, on M processors with deadline D
 pub record Askable (C P M D : ℕ) : Type 0 where
@@ -17,5 +16,5 @@ pub record Askable (C P M D : ℕ) : Type 0 where
 pub record Judges (C P M D : ℕ) (answer : Answer) : Type 0 where
   pub figures_are : answer.figures ≡ record { c = C; p = P; s = bound C P M; load = load_of C M D }
   pub verdict : Verdict
-  pub outcome_is : answer.outcome ≡ outcome.Judged verdict
+  pub outcome_is : answer.outcome ≡ Ok verdict
   pub verdict_is : IsVerdict (bound C P M) M D verdict

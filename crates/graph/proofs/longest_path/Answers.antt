@@ -1,11 +1,13 @@
 -- `longest_path`: the reply has P, or the refusal of the rows 1 to 7. Assumes nothing.
+use Rattle.std.proofs.lemmas.Result.{err_from_is_err_and}
 use Rattle.terms.specs.Replies.{IsMeasure, IsLongestPath}
 use Rattle.graph.proofs.longest_path.Goals as goal
 
-pub returns-in-Refused : goal.returns-in-Refused
+pub returns-in_err-weights : goal.returns-in_err-weights
 unfolding IsMeasure IsLongestPath
-returns-in-Refused c = rw c.in-Refused.is at c.measure.ensures
+returns-in_err-weights c =
+    let p = err_from_is_err_and c.from_residual.result c.from_residual.ensures.1 in rw (p.1, p.2) c.in_err-weights.ensures
 
-pub returns-in-Is : goal.returns-in-Is
+pub returns : goal.returns
 unfolding IsMeasure IsLongestPath
-returns-in-Is c = let measured = rw c.in-Is.is at c.measure.ensures in (measured.0, measured.2)
+returns c = let (accepts, work, path) = c.in_ok-weights.ensures in (accepts, path)

@@ -119,7 +119,7 @@ overflow_add-done c =
 
 pub chain_begin-c-requires-else-done-met : goal.chain_begin-c-requires-else-done-met
 chain_begin-c-requires-else-done-met c =
-    (next_small c.loop-c.invariant c.if-c-ne0.false c.if-done-met.false c.usize_from_u16-u.ensures.0).1
+    (next_small c.loop-c.invariant c.if-c-ne0.false c.if-done-met.false c.from-u.ensures).1
 
 skips : goal.loop-c-preserved-then-m-eq0 × goal.loop-c-smaller-then-m-eq0
 skips = both (λ c.
@@ -151,7 +151,7 @@ loop-c-preserved-else-m-eq0 = meets.0
 goes_on : goal.loop-c-preserved × goal.loop-c-smaller
 goes_on = both (λ c.
     rw c.chain_begin-c-else-done-met.ensures
-    (search_next c.loop-c.invariant c.if-c-ne0.false c.if-done-met.false c.usize_from_u16-u.ensures.0))
+    (search_next c.loop-c.invariant c.if-c-ne0.false c.if-done-met.false c.from-u.ensures))
 
 pub loop-c-smaller : goal.loop-c-smaller
 loop-c-smaller = goes_on.1

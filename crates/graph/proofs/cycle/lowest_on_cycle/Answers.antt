@@ -1,30 +1,17 @@
 -- `lowest_on_cycle`: the first subtask that the arrows lead back to. Assumes nothing.
-use Prim.Native.Nat.{◌+◌}
-use native.Mathlib.Omega.{arith}
+use Rattle.std.proofs.Common.{arith}
 use borrow.Author.Count.{below_more}
-use Rattle.theory.proofs.Firsts.{first_here, first_none, said, unsaid}
+use Rattle.terms.specs.Graphs.{LeadsTo}
+use Rattle.theory.specs.First.{IsFirstSubtask}
+use Rattle.theory.proofs.Firsts.{said, unsaid}
 use Rattle.graph.proofs.cycle.lowest_on_cycle.Goals as goal
 
-pub overflow_sub-j : goal.overflow_sub-j
-overflow_sub-j c = c.requires.among.0.low
-
-pub loop-j-init : goal.loop-j-init
-loop-j-init c =
-    (omega (arith, c.requires.among.0.high), λ k l. c.requires.among.1 (k + 1) (omega (arith, l, c.requires.among.0.low)))
-
-pub overflow_add-j : goal.overflow_add-j
-overflow_add-j c = omega (arith, c.loop-j-test.true, c.requires.tidy.subtasks)
-
-pub leads_back-requires : goal.leads_back-requires
-leads_back-requires c = record { tidy = (c.requires.tidy, record { low = omega arith; high = omega (arith, c.loop-j-test.true) }); chains = c.requires.chains }
-
 pub returns-then-leads_back : goal.returns-then-leads_back
+unfolding IsFirstSubtask
 returns-then-leads_back c =
-    first_here _ _ _ c.loop-j-test.true c.loop-j.invariant.1 (said c.if-leads_back.true c.leads_back.ensures)
+    (record { low = omega (arith, c.requires.among.0.low); high = c.loop-j-test.true }, said c.if-leads_back.true c.leads_back.ensures, λ k _ l. c.loop-j.invariant k l)
 
-pub loop-j-preserved : goal.loop-j-preserved
-loop-j-preserved c =
-    (omega arith, below_more _ _ c.loop-j.invariant.1 (unsaid c.if-leads_back.false c.leads_back.ensures))
-
-pub returns : goal.returns
-returns c = first_none _ _ _ c.loop-j.invariant.1 c.loop-j-test.false
+pub returns-else-leads_back : goal.returns-else-leads_back
+unfolding IsFirstSubtask
+returns-else-leads_back c = λ k a.
+    below_more (λ k. ¬ LeadsTo c.args.arrows.now k k) _ c.loop-j.invariant (unsaid c.if-leads_back.false c.leads_back.ensures) k (omega (arith, a.high))

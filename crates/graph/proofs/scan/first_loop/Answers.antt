@@ -1,21 +1,17 @@
 -- `first_loop`: the scan answers the first arrow that goes from a subtask to itself. Assumes nothing.
-use mathlib.Core.Path.{sym, ◌∙◌}
-use native.Mathlib.Omega.{arith}
-use borrow.Author.Count.{below_more}
-use Rattle.theory.proofs.Firsts.{first_here, first_none}
+use Rattle.std.proofs.Common.{rules, List, ℕ, [], get_or, ◌≡◌}
+use Rattle.std.proofs.lemmas.Iterator.{IsFirst-from_position, YieldsList-from_slice}
+use borrow.Author.Tests.{tests}
+use Rattle.terms.specs.Graphs.{from_of, to_of}
+use Rattle.graph.proofs.FirstArrows.{first_position}
 use Rattle.graph.proofs.scan.first_loop.Goals as goal
 
-pub returns-then-from-to : goal.returns-then-from-to
-returns-then-from-to c =
-    first_here _ _ _ c.loop-i-test.true c.loop-i.invariant.1
-    (sym c.from_at-from.ensures.0 ∙ c.if-from-to.true ∙ c.to_at-to.ensures.0)
-
-pub loop-i-preserved : goal.loop-i-preserved
-loop-i-preserved c = (
-  omega arith,
-  below_more _ _ c.loop-i.invariant.1
-      (λ e. c.if-from-to.false (c.from_at-from.ensures.0 ∙ e ∙ sym c.to_at-to.ensures.0)),
-)
+abbrev Same : List ℕ → Type 0
+Same ends = get_or ends 0 0 ≡ get_or ends 1 0
 
 pub returns : goal.returns
-returns c = first_none _ _ _ c.loop-i.invariant.1 c.loop-i-test.false
+unfolding from_of to_of
+returns c =
+    first_position [] c.args.arrows.now Same (λ ends. ¬ Same ends) (λ k h. h) (λ k h. h) c.position.result
+    (IsFirst-from_position _ _ _ Same (λ ends. ¬ Same ends) c.position.ensures.ran
+    (YieldsList-from_slice c.args.arrows.now cc) (λ x q k. search (rules, tests)) (λ x q k. search (rules, tests)))

@@ -1,34 +1,17 @@
 -- `first_outside`: the scan answers the first arrow that names a subtask outside 1..n. Assumes nothing.
-use native.Mathlib.Omega.{arith}
-use borrow.Author.Count.{below_more}
-use Rattle.theory.proofs.Firsts.{first_here, first_none}
+use Rattle.std.proofs.Common.{rules, List, ℕ, [], get_or}
+use Rattle.std.proofs.lemmas.Iterator.{IsFirst-from_position, YieldsList-from_slice}
+use borrow.Author.Tests.{tests}
+use Rattle.terms.specs.Graphs.{Among, from_of, to_of}
+use Rattle.graph.proofs.FirstArrows.{first_position}
 use Rattle.graph.proofs.scan.first_outside.Goals as goal
 
-pub returns-then-u-lt1 : goal.returns-then-u-lt1
-returns-then-u-lt1 c =
-    first_here _ _ _ c.loop-i-test.true c.loop-i.invariant.1 (λ both. omega (arith, both.0.low, c.from_at-from.ensures.0))
-
-pub returns-then-n-u : goal.returns-then-n-u
-returns-then-n-u c =
-    first_here _ _ _ c.loop-i-test.true c.loop-i.invariant.1
-    (λ both. omega (arith, both.0.high, c.from_at-from.ensures.0))
-
-pub returns-then-v-lt1 : goal.returns-then-v-lt1
-returns-then-v-lt1 c =
-    first_here _ _ _ c.loop-i-test.true c.loop-i.invariant.1 (λ both. omega (arith, both.1.low, c.to_at-to.ensures.0))
-
-pub returns-then-n-v : goal.returns-then-n-v
-returns-then-n-v c =
-    first_here _ _ _ c.loop-i-test.true c.loop-i.invariant.1
-    (λ both. omega (arith, both.1.high, c.to_at-to.ensures.0))
-
-pub loop-i-preserved : goal.loop-i-preserved
-loop-i-preserved c = (
-  omega arith,
-  below_more _ _ c.loop-i.invariant.1
-      (λ out. out (record { low = omega (arith, c.from_at-from.ensures.0); high = omega (arith, c.from_at-from.ensures.0) }, record { low = omega (arith, c.to_at-to.ensures.0); high = omega (arith, c.to_at-to.ensures.0) })),
-)
+abbrev Named : ℕ → List ℕ → Type 0
+Named n ends = Among 1 n (get_or ends 0 0) × Among 1 n (get_or ends 1 0)
 
 pub returns : goal.returns
+unfolding from_of to_of
 returns c =
-    first_none _ _ _ c.loop-i.invariant.1 c.loop-i-test.false
+    first_position [] c.args.arrows.now (λ ends. ¬ Named c.args.n ends) (Named c.args.n) (λ k h. h) (λ k h out. out h) c.position.result
+    (IsFirst-from_position _ _ _ (λ ends. ¬ Named c.args.n ends) (Named c.args.n) c.position.ensures.ran
+    (YieldsList-from_slice c.args.arrows.now cc) (λ x q k. search (rules, tests)) (λ x q k. search (rules, tests)))

@@ -41,7 +41,7 @@ turns = both (λ c.
     -- at the arrow at the cursor, which comes from p
     let at_arrow : Looks c.args.n c.args.arrows.now c.args.v.0 c.loop-c.c c.source-from.result.0 =
     looks c.loop-c.invariant.tidy c.loop-c.invariant.along c.loop-c-test.true c.source-from.ensures.0 in
-    rw c.chain_next-c.ensures (looked_more c.loop-c.invariant at_arrow c.larger-most.ensures))
+    rw c.chain_next-c.ensures (looked_more c.loop-c.invariant at_arrow c.max-most.ensures))
 
 pub loop-c-smaller : goal.loop-c-smaller
 loop-c-smaller = turns.1
