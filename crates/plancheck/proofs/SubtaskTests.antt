@@ -2,13 +2,14 @@
 use Rattle.std.proofs.Common.{◌≡◌, refl, List, ℕ, ◌≤◌, ◌<◌, None, Some, length, get_or, arith}
 use Rattle.std.proofs.Math.Logic.{by_cases}
 use Rattle.std.proofs.Math.Decide.{dec_le}
-use Rattle.terms.specs.Rows.{RefusedBy, refusal_at, Smallest}
+use Rattle.terms.specs.Rows.{RefusedBy, Smallest}
 use Rattle.terms.specs.Graphs.{Among, IsSubtask, from_of, Precedes}
 use Rattle.terms.specs.Plans.{processor_of, start_of, end_of}
 use Rattle.terms.specs.Refusals.{StartsEarly, SubtaskAt, on_rows, plan_rows, check_rows}
 use Rattle.terms.specs.declared.Entry.{Entry}
 use Rattle.terms.specs.declared.Refusal.{Refusal}
 use Rattle.terms.specs.declared.Subtask.{Subtask}
+use Rattle.terms.proofs.Decisions.{Tells}
 use Rattle.terms.proofs.Decide.{dec_among, undenied}
 use Rattle.theory.specs.First.{IsFirstSubtask}
 use Rattle.theory.proofs.Accepted.{accepted_on}
@@ -25,9 +26,9 @@ pub record Prepared (times : List ℕ) (arrows : List (List ℕ)) (M : ℕ) (pla
   pub row : LatestEnds times arrows plan (length arrows) ready
   pub ordered : (j : ℕ) → IsSubtask times j → get_or ready j 0 ≤ start_of plan j
 
--- the plan is refused by the number and the places with which the refusal was made
+-- the plan is refused by a refusal that tells this number and these places
 abbrev pub RefusedWith : List ℕ → List (List ℕ) → ℕ → List Entry → ℕ → ℕ → ℕ → Refusal → Type 0
-RefusedWith times arrows M plan k place second r = r ≡ refusal_at k place second → RefusedBy (check_rows times arrows M plan) r
+RefusedWith times arrows M plan k place second r = Tells r k place second → RefusedBy (check_rows times arrows M plan) r
 
 -- none of 1 to 8 and of 12 to those before number k holds
 abbrev pub Left : List ℕ → List (List ℕ) → ℕ → List Entry → ℕ → Type 0

@@ -1,6 +1,7 @@
 -- `check_placing`: the first row of 13 to 17 that holds of a plan. Assumes nothing.
 use Rattle.std.proofs.Common.{arith}
 use Rattle.terms.specs.Replies.{IsCheck}
+use Rattle.terms.proofs.Decisions.{told}
 use Rattle.theory.specs.First.{IsFirstSubtask}
 use Rattle.theory.proofs.Firsts.{shown}
 use Rattle.plancheck.specs.Known.{Timed}
@@ -20,39 +21,24 @@ known : (c : In_default-first_early) → Prepared c.args.times.now c.args.arrows
 known c = prepared_by c.requires (placed_by c.requires (rw c.in_default.is at c.first_misplaced.ensures))
     (timed_by c.requires (rw c.in_default-first_late.is at c.first_late.ensures)) c.latest_ends-ready.ensures (rw c.in_default-first_early.is at c.first_early.ensures)
 
-pub overflow_cast-subtask : goal.overflow_cast-subtask
-unfolding IsFirstSubtask
-overflow_cast-subtask c =
-    let first = rw c.in-Some.is at c.first_misplaced.ensures in omega (arith, first.0.high)
-
 pub returns-in-Some : goal.returns-in-Some
 unfolding IsCheck
-returns-in-Some c = answer_13 c.requires (rw c.in-Some.is at c.first_misplaced.ensures) c.refuse_at.ensures
-
-pub overflow_cast-subtask-in-Some-first_late : goal.overflow_cast-subtask-in-Some-first_late
-unfolding IsFirstSubtask
-overflow_cast-subtask-in-Some-first_late c =
-    let first = rw c.in-Some-first_late.is at c.first_late.ensures in omega (arith, first.0.high)
+returns-in-Some c = answer_13 c.requires (rw c.in-Some.is at c.first_misplaced.ensures) told
 
 pub returns-in-Some-first_late : goal.returns-in-Some-first_late
 unfolding IsCheck
 returns-in-Some-first_late c =
     answer_14 c.requires (placed_by c.requires (rw c.in_default.is at c.first_misplaced.ensures)) (rw c.in-Some-first_late.is at c.first_late.ensures)
-    c.refuse_at-in-Some-first_late.ensures
+    told
 
 pub latest_ends-ready-requires : goal.latest_ends-ready-requires
 latest_ends-ready-requires c = (c.requires.graph, timed (goal.at.latest_ends-ready-requires c).In_default-first_late)
-
-pub overflow_cast-subtask-in-Some-first_early : goal.overflow_cast-subtask-in-Some-first_early
-unfolding IsFirstSubtask
-overflow_cast-subtask-in-Some-first_early c =
-    let first = rw c.in-Some-first_early.is at c.first_early.ensures in omega (arith, first.0.high)
 
 pub returns-in-Some-first_early : goal.returns-in-Some-first_early
 unfolding IsCheck
 returns-in-Some-first_early c =
     answer_15 c.requires (placed_by c.requires (rw c.in_default.is at c.first_misplaced.ensures)) (timed (goal.at.returns-in-Some-first_early c).In_default-first_late)
-    c.latest_ends-ready.ensures (rw c.in-Some-first_early.is at c.first_early.ensures) c.refuse_at-in-Some-first_early.ensures
+    c.latest_ends-ready.ensures (rw c.in-Some-first_early.is at c.first_early.ensures) told
 
 pub passes_sweep-requires : goal.passes_sweep-requires
 passes_sweep-requires c = sweepable (known (goal.at.passes_sweep-requires c).In_default-first_early)
@@ -67,20 +53,10 @@ returns-then-passes_sweep c =
 pub first_sharing-requires : goal.first_sharing-requires
 first_sharing-requires c = timed (goal.at.first_sharing-requires c).In_default-first_late
 
-pub overflow_cast-pair : goal.overflow_cast-pair
-unfolding FirstClash IsFirstSubtask
-overflow_cast-pair c =
-    let first = rw c.in-Some-first_sharing.is at c.first_sharing.ensures in omega (arith, first.0.0.high)
-
-pub overflow_cast-pair-in-Some-first_sharing : goal.overflow_cast-pair-in-Some-first_sharing
-unfolding FirstClash IsFirstSubtask
-overflow_cast-pair-in-Some-first_sharing c =
-    let first = rw c.in-Some-first_sharing.is at c.first_sharing.ensures in omega (arith, first.1.0.high)
-
 pub returns-in-Some-first_sharing : goal.returns-in-Some-first_sharing
 unfolding IsCheck
 returns-in-Some-first_sharing c =
-    answer_16 (known (goal.at.returns-in-Some-first_sharing c).In_default-first_early) (rw c.in-Some-first_sharing.is at c.first_sharing.ensures) c.refuse_pair.ensures
+    answer_16 (known (goal.at.returns-in-Some-first_sharing c).In_default-first_early) (rw c.in-Some-first_sharing.is at c.first_sharing.ensures) told
 
 pub earliest_idle-requires : goal.earliest_idle-requires
 earliest_idle-requires c = (timed (goal.at.earliest_idle-requires c).In_default-first_late, c.latest_ends-ready.ensures.long)
@@ -90,7 +66,7 @@ unfolding IsCheck
 returns-in-Some-earliest_idle c =
     let before = known (goal.at.returns-in-Some-earliest_idle c).In_default-first_early in
     answer_17 before (sound_pairs before (rw c.in_default-first_sharing.is at c.first_sharing.ensures)) (rw c.in-Some-earliest_idle.is at c.earliest_idle.ensures)
-    c.refuse_at-in-Some-earliest_idle.ensures
+    told
 
 pub returns : goal.returns
 unfolding IsCheck
@@ -98,3 +74,28 @@ returns c =
     let before = known (goal.at.returns c).In_default-first_early in
     accepted_busy before
     (busy_instants before (sound_pairs before (rw c.in_default-first_sharing.is at c.first_sharing.ensures)) (rw c.in_default-earliest_idle.is at c.earliest_idle.ensures))
+
+pub overflow_cast-result : goal.overflow_cast-result
+unfolding IsFirstSubtask
+overflow_cast-result c =
+    let first = rw c.in-Some.is at c.first_misplaced.ensures in omega (arith, first.0.high)
+
+pub overflow_cast-result-in-Some-first_late : goal.overflow_cast-result-in-Some-first_late
+unfolding IsFirstSubtask
+overflow_cast-result-in-Some-first_late c =
+    let first = rw c.in-Some-first_late.is at c.first_late.ensures in omega (arith, first.0.high)
+
+pub overflow_cast-result-in-Some-first_early : goal.overflow_cast-result-in-Some-first_early
+unfolding IsFirstSubtask
+overflow_cast-result-in-Some-first_early c =
+    let first = rw c.in-Some-first_early.is at c.first_early.ensures in omega (arith, first.0.high)
+
+pub overflow_cast-result-in-Some-first_sharing : goal.overflow_cast-result-in-Some-first_sharing
+unfolding FirstClash IsFirstSubtask
+overflow_cast-result-in-Some-first_sharing c =
+    let first = rw c.in-Some-first_sharing.is at c.first_sharing.ensures in omega (arith, first.0.0.high)
+
+pub overflow_cast-result-in-Some-first_sharing-2 : goal.overflow_cast-result-in-Some-first_sharing-2
+unfolding FirstClash IsFirstSubtask
+overflow_cast-result-in-Some-first_sharing-2 c =
+    let first = rw c.in-Some-first_sharing.is at c.first_sharing.ensures in omega (arith, first.1.0.high)
