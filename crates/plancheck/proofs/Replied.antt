@@ -1,7 +1,7 @@
 -- From the answer of the table to the reply: a refusal, or the plan's end. Assumes nothing.
 use Rattle.std.proofs.Common.{◌≡◌, ◌≢◌, Ok, Err, List, ℕ, ◌<◌, min, length, arith}
 use Rattle.terms.specs.Rows.{Accepted, RefusedBy}
-use Rattle.terms.specs.Graphs.{Among, In16Bits}
+use Rattle.terms.specs.Graphs.{In16Bits}
 use Rattle.terms.specs.Plans.{end_of}
 use Rattle.terms.specs.Refusals.{on_rows, plan_rows, check_rows}
 use Rattle.terms.specs.Replies.{IsChecked}
@@ -9,7 +9,6 @@ use Rattle.terms.specs.declared.Refusal.{Refusal}
 use Rattle.terms.specs.declared.Refusal.TheVariants.{PlanLength}
 use Rattle.terms.proofs.Decisions.{told}
 use Rattle.terms.specs.declared.Entry.{Entry}
-use Rattle.theory.specs.Sound.{SoundGraph}
 use Rattle.theory.proofs.Answers.{refused_first, begin, past_all, stop}
 use Rattle.theory.proofs.Accepted.{sound_on, busy_plan}
 use Rattle.forms.specs.Forms.{last_end}

@@ -26,12 +26,7 @@ struct Pair {
 }
 
 // 13 to 17 of a plan, where none of 1 to 8 and 12 holds.
-fn check_placing(
-    times: &[u16],
-    arrows: &[[u16; 2]],
-    m: u32,
-    plan: &[Entry],
-) -> Result<(), Refusal>
+fn check_placing(times: &[u16], arrows: &[[u16; 2]], m: u32, plan: &[Entry]) -> Result<(), Refusal>
     requires { Given times.now arrows.now m plan.now }
     ensures { IsCheck (check_rows times.now arrows.now m plan.now) result }
 {

@@ -29,8 +29,11 @@ returns-in_err-check_placing c =
 pub overflow_cast-result : goal.overflow_cast-result
 unfolding IsCheck time_of
 overflow_cast-result c =
-    omega (arith, end_small (given_by c.in_ok-check_on.ensures c.if-plan-times.false) c.last_end.ensures c.in_ok-check_placing.ensures
-        (λ j s. omega (arith, c.type_inv.times (j - 1))))
+    omega (
+      arith,
+      end_small (given_by c.in_ok-check_on.ensures c.if-plan-times.false) c.last_end.ensures c.in_ok-check_placing.ensures
+          (λ j s. omega (arith, c.type_inv.times (j - 1))),
+    )
 
 pub returns : goal.returns
 unfolding IsCheck
