@@ -1,38 +1,59 @@
 // The arrows as chains, one for each subtask.
-ghost use Rattle.std.specs.Prelude.{◌≡◌, ◌-◌, ◌≤◌, ◌<◌, length, replicate, get_or};
-ghost use Rattle.terms.specs.Graphs.{from_of, to_of};
-ghost use Rattle.graph.specs.Chains.{Chains, Tidy};
+ghost use Rattle.std.specs.Prelude.{◌≡◌, ◌-◌, ◌≤◌, ◌<◌, length, get_or};
+ghost use Rattle.terms.specs.Graphs.{from_of};
+ghost use Rattle.graph.specs.Chains.{Tidy};
+ghost use Rattle.graph.specs.Links.{IsEmpty, Linked};
 
 use terms::Subtask;
 
-// For each subtask the chain of the arrows into it, the latest first: `first` holds the position of that one, `next` of the one before it.
-// `first` has 32 bits so that the two tables differ in width: a compiled walk then goes from `next` to `next` without a step between.
-pub fn chain(n: usize, arrows: &[[u16; 2]], first: &mut [u32; 257], next: &mut [u16; 2048])
-    requires tidy { Tidy n arrows.now }
-    requires first_value { (first.old ≡ replicate 257 0) × (length next.old ≡ 2048) }
-    ensures { Chains (to_of arrows.now) first.new next.new (length arrows.now) }
-{
-    for (i, &[_, to]) in arrows.iter().enumerate() {
-        let v = usize::from(to);
-        next[i] = first[v] as u16;
-        first[v] = (i + 1) as u32;
+// For each subtask the chain of the arrows into it, the latest first: `first` holds the position of that one, `next` of the one before it,
+// and 0 ends a chain. `first` has 32 bits so that the two tables differ in width: a compiled walk then goes from `next` to `next` without a
+// step between.
+#[derive(Drop)]
+pub struct Links {
+    pub first: [u32; 257],
+    pub next: [u16; 2048],
+}
+
+impl Links {
+    // No arrow is in a chain yet.
+    pub fn none() -> Links
+        ensures { IsEmpty result }
+    {
+        Links {
+            first: [0; 257],
+            next: [0; 2048],
+        }
     }
-}
 
-// The position at which the chain of v begins.
-pub fn chain_begin(first: &[u32; 257], v: Subtask) -> usize
-    requires { v.0 < 257 }
-    ensures { result ≡ get_or first.now v.0 0 }
-{
-    first[v.0] as usize
-}
+    // All arrows, one after the other.
+    pub fn link(&mut self, n: usize, arrows: &[[u16; 2]])
+        requires tidy { Tidy n arrows.now }
+        requires empty { IsEmpty self.old }
+        ensures { Linked arrows.now self.new }
+    {
+        for (i, &[_, to]) in arrows.iter().enumerate() {
+            let v = usize::from(to);
+            self.next[i] = self.first[v] as u16;
+            self.first[v] = (i + 1) as u32;
+        }
+    }
 
-// The position that comes after c in its chain.
-pub fn chain_next(next: &[u16; 2048], c: usize) -> usize
-    requires { (1 ≤ c) × (c ≤ 2048) }
-    ensures { result ≡ get_or next.now (c - 1) 0 }
-{
-    usize::from(next[c - 1])
+    // The position at which the chain of v begins.
+    pub fn begin(&self, v: Subtask) -> usize
+        requires { v.0 < 257 }
+        ensures { result ≡ get_or self.now.first v.0 0 }
+    {
+        self.first[v.0] as usize
+    }
+
+    // The position that comes after c in its chain.
+    pub fn after(&self, c: usize) -> usize
+        requires { (1 ≤ c) × (c ≤ 2048) }
+        ensures { result ≡ get_or self.now.next (c - 1) 0 }
+    {
+        usize::from(self.next[c - 1])
+    }
 }
 
 // The subtask from which the arrow at position c comes.

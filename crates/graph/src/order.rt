@@ -1,10 +1,11 @@
 // The order "predecessors first".
 ghost use Rattle.std.specs.Prelude.{◌≡◌, length};
 ghost use Rattle.terms.specs.Graphs.{to_of};
-ghost use Rattle.graph.specs.Chains.{Chains, Tidy};
+ghost use Rattle.graph.specs.Chains.{Tidy};
+ghost use Rattle.graph.specs.Links.{Linked};
 ghost use Rattle.graph.specs.Ordered.{Orders};
 
-use crate::chains::{chain_begin, chain_next, source};
+use crate::chains::{Links, source};
 use inputs::to_at;
 use terms::Subtask;
 
@@ -15,12 +16,11 @@ use terms::Subtask;
 pub fn order_subtasks(
     n: usize,
     arrows: &[[u16; 2]],
-    first: &[u32; 257],
-    next: &[u16; 2048],
+    links: &Links,
     order: &mut [u16; 256],
 ) -> Result<(), Subtask>
     requires tidy { Tidy n arrows.now }
-    requires chains { Chains (to_of arrows.now) first.now next.now (length arrows.now) }
+    requires linked { Linked arrows.now links.now }
     requires order_len { length order.old ≡ 256 }
     ensures { Orders n arrows.now order.new result }
 {
@@ -34,20 +34,20 @@ pub fn order_subtasks(
         mark[root] = 2;
         let mut depth: usize = 0;
         let mut u = root;
-        let mut c = chain_begin(first, Subtask(root));
+        let mut c = links.begin(Subtask(root));
         loop {
             if c != 0 {
                 let from = source(arrows, c);
                 let p = from.0;
                 let m = mark[p];
                 if m == 0 {
-                    c = chain_next(next, c);
+                    c = links.after(c);
                 } else if m == 1 {
                     stack[depth] = c as u16;
                     depth += 1;
                     mark[p] = (depth + 2) as u16;
                     u = p;
-                    c = chain_begin(first, from);
+                    c = links.begin(from);
                 } else {
                     return Err(Subtask(root));
                 }
@@ -62,7 +62,7 @@ pub fn order_subtasks(
                 let a = usize::from(stack[depth]);
                 let to = to_at(arrows, a - 1);
                 u = to.0;
-                c = chain_next(next, a);
+                c = links.after(a);
             }
         }
     }

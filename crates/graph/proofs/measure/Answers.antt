@@ -16,8 +16,8 @@ total-requires c = (sized _ _ (finds_sound c.in_ok-check_and_order.ensures).0).0
 pub longest-requires-clause-tidy : goal.longest-requires-clause-tidy
 longest-requires-clause-tidy c = sized _ _ (finds_sound c.in_ok-check_and_order.ensures).0
 
-pub longest-requires-clause-chains : goal.longest-requires-clause-chains
-longest-requires-clause-chains c = (finds_sound c.in_ok-check_and_order.ensures).1
+pub longest-requires-clause-linked : goal.longest-requires-clause-linked
+longest-requires-clause-linked c = (finds_sound c.in_ok-check_and_order.ensures).1
 
 pub longest-requires-clause-ordered : goal.longest-requires-clause-ordered
 longest-requires-clause-ordered c = (finds_sound c.in_ok-check_and_order.ensures).2

@@ -11,12 +11,12 @@ use Rattle.graph.proofs.CycleSearch.{turn, search_start, search_end}
 use Rattle.graph.proofs.CycleSearch.{search_back, search_skip, room_for, search_meet, next_small, search_next}
 use Rattle.graph.proofs.cycle.leads_back.Goals as goal
 
-pub chain_begin-c-requires : goal.chain_begin-c-requires
-chain_begin-c-requires c = omega (arith, c.requires.tidy.0.subtasks, c.requires.tidy.1.high)
+pub begin-c-requires : goal.begin-c-requires
+begin-c-requires c = omega (arith, c.requires.tidy.0.subtasks, c.requires.tidy.1.high)
 
 pub loop-c-init : goal.loop-c-init
 loop-c-init c =
-    rw c.chain_begin-c.ensures (search_start c.requires.tidy.0 c.requires.tidy.1 c.requires.chains (length-replicate {A = ℕ} 256 0))
+    rw c.begin-c.ensures (search_start c.requires.tidy.0 c.requires.tidy.1 c.requires.linked (length-replicate {A = ℕ} 256 0))
 
 pub source-from-requires : goal.source-from-requires
 source-from-requires c = (omega arith, c.loop-c.invariant.along.within)
@@ -35,8 +35,8 @@ returns-then-p-root c =
     looks c.loop-c.invariant.tidy c.loop-c.invariant.along c.if-c-ne0.true c.source-from.ensures.0 in
     search_back c.loop-c.invariant at_arrow c.if-p-root.true
 
-pub chain_next-c-requires : goal.chain_next-c-requires
-chain_next-c-requires c =
+pub after-c-requires : goal.after-c-requires
+after-c-requires c =
     -- what is known at each place: at an arrow from p
     let at_arrow : Looks c.args.n c.args.arrows.now (turn c.args.root.0 c.loop-c.queue c.loop-c.done) c.loop-c.c c.source-from.result.0 =
     looks c.loop-c.invariant.tidy c.loop-c.invariant.along c.if-c-ne0.true c.source-from.ensures.0 in
@@ -86,8 +86,8 @@ overflow_add-met c =
     room_for c.loop-c.invariant at_arrow c.if-m-eq0.false in
     omega (arith, at_new)
 
-pub chain_next-c-requires-else-m-eq0 : goal.chain_next-c-requires-else-m-eq0
-chain_next-c-requires-else-m-eq0 c =
+pub after-c-requires-else-m-eq0 : goal.after-c-requires-else-m-eq0
+after-c-requires-else-m-eq0 c =
     -- what is known at each place: at an arrow from p
     let at_arrow : Looks c.args.n c.args.arrows.now (turn c.args.root.0 c.loop-c.queue c.loop-c.done) c.loop-c.c c.source-from.result.0 =
     looks c.loop-c.invariant.tidy c.loop-c.invariant.along c.if-c-ne0.true c.source-from.ensures.0 in
@@ -117,8 +117,8 @@ overflow_add-done c =
     (next_small c.loop-c.invariant c.if-c-ne0.false c.if-done-met.false refl).0 in
     omega (arith, at_next)
 
-pub chain_begin-c-requires-else-done-met : goal.chain_begin-c-requires-else-done-met
-chain_begin-c-requires-else-done-met c =
+pub begin-c-requires-else-done-met : goal.begin-c-requires-else-done-met
+begin-c-requires-else-done-met c =
     (next_small c.loop-c.invariant c.if-c-ne0.false c.if-done-met.false c.from-u.ensures).1
 
 skips : goal.loop-c-preserved-then-m-eq0 × goal.loop-c-smaller-then-m-eq0
@@ -126,7 +126,7 @@ skips = both (λ c.
     -- what is known at each place: at an arrow from p
     let at_arrow : Looks c.args.n c.args.arrows.now (turn c.args.root.0 c.loop-c.queue c.loop-c.done) c.loop-c.c c.source-from.result.0 =
     looks c.loop-c.invariant.tidy c.loop-c.invariant.along c.if-c-ne0.true c.source-from.ensures.0 in
-    rw c.chain_next-c.ensures (search_skip c.loop-c.invariant at_arrow c.if-m-eq0.true))
+    rw c.after-c.ensures (search_skip c.loop-c.invariant at_arrow c.if-m-eq0.true))
 
 pub loop-c-smaller-then-m-eq0 : goal.loop-c-smaller-then-m-eq0
 loop-c-smaller-then-m-eq0 = skips.1
@@ -139,7 +139,7 @@ meets = both (λ c.
     -- what is known at each place: at an arrow from p
     let at_arrow : Looks c.args.n c.args.arrows.now (turn c.args.root.0 c.loop-c.queue c.loop-c.done) c.loop-c.c c.source-from.result.0 =
     looks c.loop-c.invariant.tidy c.loop-c.invariant.along c.if-c-ne0.true c.source-from.ensures.0 in
-    rw c.chain_next-c-else-m-eq0.ensures
+    rw c.after-c-else-m-eq0.ensures
     (search_meet c.loop-c.invariant at_arrow c.if-m-eq0.false c.if-p-root.false))
 
 pub loop-c-smaller-else-m-eq0 : goal.loop-c-smaller-else-m-eq0
@@ -150,7 +150,7 @@ loop-c-preserved-else-m-eq0 = meets.0
 
 goes_on : goal.loop-c-preserved × goal.loop-c-smaller
 goes_on = both (λ c.
-    rw c.chain_begin-c-else-done-met.ensures
+    rw c.begin-c-else-done-met.ensures
     (search_next c.loop-c.invariant c.if-c-ne0.false c.if-done-met.false c.from-u.ensures))
 
 pub loop-c-smaller : goal.loop-c-smaller

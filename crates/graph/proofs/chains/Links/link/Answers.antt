@@ -1,19 +1,19 @@
--- `chain`: the two tables hold the chains of the arrows. Assumes nothing.
+-- `link`: the two tables hold the chains of the arrows. Assumes nothing.
 use Rattle.std.proofs.Common.{◌<◌, arith}
 use Rattle.terms.specs.Graphs.{to_of}
 use Rattle.graph.proofs.Chained.{chains_none, chains_more, to_small}
-use Rattle.graph.proofs.chains.chain.Goals as goal
+use Rattle.graph.proofs.chains.Links.link.Goals as goal
 
 pub loop-i-init : goal.loop-i-init
-loop-i-init c = chains_none _ _ _ c.requires.first_value.0 c.requires.first_value.1
+loop-i-init c = chains_none _ _ _ c.requires.empty.0 c.requires.empty.1
 
-pub bounds-first-v : goal.bounds-first-v
+pub bounds-self-v : goal.bounds-self-v
 unfolding to_of
-bounds-first-v c = to_small c.requires.tidy _ _ c.loop-i-test.true c.from-v.ensures
+bounds-self-v c = to_small c.requires.tidy _ _ c.loop-i-test.true c.from-v.ensures
 
-pub bounds-first-v-in-loop-i : goal.bounds-first-v-in-loop-i
+pub bounds-self-v-in-loop-i : goal.bounds-self-v-in-loop-i
 unfolding to_of
-bounds-first-v-in-loop-i c = to_small c.requires.tidy _ _ c.loop-i-test.true c.from-v.ensures
+bounds-self-v-in-loop-i c = to_small c.requires.tidy _ _ c.loop-i-test.true c.from-v.ensures
 
 pub loop-i-preserved : goal.loop-i-preserved
 unfolding to_of
