@@ -3,9 +3,10 @@
 
 ghost use Rattle.std.specs.Prelude.{◌≡◌, length};
 
+use forms::blank;
 use graph::{longest_path, total_work};
-use listplan::draft_plan;
-use plancheck::check_table;
+use listplan::list_plan;
+use plancheck::check_plan;
 use std::io;
 use stg::read_stg;
 use terms::{Answer, Entry, Processor, Refusal, Verdict};
@@ -69,8 +70,10 @@ fn listed(
     order: &[u16],
     room: usize,
 ) -> io::Result<()> {
-    let draft = draft_plan(times, arrows, m, order, room);
-    print_end(rt, draft.reply)
+    print_end(
+        rt,
+        list_plan(times, arrows, m, order, &mut blank()[..room.min(256)]),
+    )
 }
 
 // The check of a plan of two entries, and of one.
@@ -82,9 +85,7 @@ fn checked(
     first: Entry,
     second: Entry,
 ) -> io::Result<()> {
-    let mut table = [first; 256];
-    table[1] = second;
-    print_end(rt, check_table(times, arrows, m, table, 2))
+    print_end(rt, check_plan(times, arrows, m, &[first, second]))
 }
 
 fn checked_alone(
@@ -94,7 +95,7 @@ fn checked_alone(
     m: u32,
     entry: Entry,
 ) -> io::Result<()> {
-    print_end(rt, check_table(times, arrows, m, [entry; 256], 1))
+    print_end(rt, check_plan(times, arrows, m, &[entry]))
 }
 
 // Example 2: every time of G shorter by 1.

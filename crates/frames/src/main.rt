@@ -1,8 +1,9 @@
 // Reads an STG text from standard input, and prints C, P, S and the end of the list plan in the order 1..n for 1 to 4 processors.
 #![tactic(auto)]
 
+use forms::blank;
 use inputs::order_by_number;
-use listplan::draft_plan;
+use listplan::list_plan;
 use std::io;
 use std::io::Read;
 use stg::read_stg;
@@ -28,8 +29,7 @@ fn report(
     order: &[u16],
 ) -> io::Result<()> {
     let answer = judge(times, arrows, m, 1);
-    let draft = draft_plan(times, arrows, m, order, times.len());
-    match draft.reply {
+    match list_plan(times, arrows, m, order, &mut blank()) {
         Ok(end) => print_line(rt, m, answer.figures, end),
         Err(refusal) => print_refusal(rt, refusal),
     }

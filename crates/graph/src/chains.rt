@@ -38,38 +38,50 @@ impl Links {
             self.first[v] = (i + 1) as u32;
         }
     }
+}
 
+// The arrows of n subtasks and their chains: each arrow names two of the subtasks.
+#[derive(Clone, Copy)]
+pub struct Chained<'a> {
+    pub n: usize,
+    pub arrows: &'a [[u16; 2]],
+    pub links: &'a Links,
+    ghost tidy: { Tidy n arrows.now },
+    ghost linked: { Linked arrows.now links.now },
+}
+
+impl<'a> Chained<'a> {
     // The position at which the chain of v begins.
     pub fn begin(&self, v: Subtask) -> usize
         requires { v.0 < 257 }
-        ensures { result ≡ get_or self.now.first v.0 0 }
+        ensures { result ≡ get_or self.now.links.now.first v.0 0 }
     {
-        self.first[v.0] as usize
+        self.links.first[v.0] as usize
     }
 
     // The position that comes after c in its chain.
     pub fn after(&self, c: usize) -> usize
         requires { (1 ≤ c) × (c ≤ 2048) }
-        ensures { result ≡ get_or self.now.next (c - 1) 0 }
+        ensures { result ≡ get_or self.now.links.now.next (c - 1) 0 }
     {
-        usize::from(self.next[c - 1])
+        usize::from(self.links.next[c - 1])
     }
-}
 
-// The subtask from which the arrow at position c comes.
-pub fn source(arrows: &[[u16; 2]], c: usize) -> Subtask
-    requires { (1 ≤ c) × (c ≤ length arrows.now) }
-    ensures { (result.0 ≡ from_of arrows.now (c - 1)) × (result.0 < 65536) }
-{
-    let [from, _] = arrows[c - 1];
-    Subtask(usize::from(from))
-}
+    // The subtask from which the arrow at position c comes.
+    pub fn source(&self, c: usize) -> Subtask
+        requires { (1 ≤ c) × (c ≤ length self.now.arrows.now) }
+        ensures { (result.0 ≡ from_of self.now.arrows.now (c - 1)) × (result.0 < 65536) }
+    {
+        let [from, _] = self.arrows[c - 1];
+        Subtask(usize::from(from))
+    }
 
-// The subtask to which it goes.
-pub fn target(arrows: &[[u16; 2]], c: usize) -> Subtask
-    requires { (1 ≤ c) × (c ≤ length arrows.now) }
-    ensures { (result.0 ≡ to_of arrows.now (c - 1)) × (result.0 < 65536) }
-{
-    let [_, to] = arrows[c - 1];
-    Subtask(usize::from(to))
+    // The subtask to which it goes.
+    pub fn target(&self, c: usize) -> Subtask
+        requires { (1 ≤ c) × (c ≤ length self.now.arrows.now) }
+        ensures { (result.0 ≡ to_of self.now.arrows.now (c - 1)) × (result.0 < 65536) }
+    {
+        let [_, to] = self.arrows[c - 1];
+        Subtask(usize::from(to))
+    }
 }

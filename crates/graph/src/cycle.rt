@@ -1,20 +1,17 @@
 // The lowest subtask on any cycle, which is asked for only where the arrows close one.
-ghost use Rattle.std.specs.Prelude.{ℕ, ◌<◌, length};
-ghost use Rattle.terms.specs.Graphs.{Among, to_of, LeadsTo};
+ghost use Rattle.std.specs.Prelude.{ℕ, ◌<◌};
+ghost use Rattle.terms.specs.Graphs.{Among, LeadsTo};
 ghost use Rattle.theory.specs.First.{IsFirstSubtask};
 ghost use Rattle.theory.specs.Flags.{Says};
-ghost use Rattle.graph.specs.Chains.{Tidy};
-ghost use Rattle.graph.specs.Links.{Linked};
 
-use crate::chains::{Links, source};
+use crate::chains::Chained;
 use terms::Subtask;
 
 // Whether the arrows lead from a subtask back to it. It goes back along the arrows from there: each subtask that is met stands in the queue
 // once, and has its turn at v. c is the position of the arrow that is looked at.
-fn leads_back(n: usize, arrows: &[[u16; 2]], links: &Links, root: Subtask) -> bool
-    requires tidy { Tidy n arrows.now × Among 1 n root.0 }
-    requires linked { Linked arrows.now links.now }
-    ensures { Says (LeadsTo arrows.now root.0 root.0) result }
+fn leads_back(graph: &Chained<'_>, root: Subtask) -> bool
+    requires { Among 1 graph.now.n root.0 }
+    ensures { Says (LeadsTo graph.now.arrows.now root.0 root.0) result }
 {
     let mut met = [false; 257];
     let mut queue = [0u16; 256];
@@ -22,9 +19,9 @@ fn leads_back(n: usize, arrows: &[[u16; 2]], links: &Links, root: Subtask) -> bo
     let mut done: usize = 0;
     let mut v = root.0;
     loop {
-        let mut c = links.begin(Subtask(v));
+        let mut c = graph.begin(Subtask(v));
         while c != 0 {
-            let from = source(arrows, c);
+            let from = graph.source(c);
             let p = from.0;
             if p == root.0 {
                 return true;
@@ -34,7 +31,7 @@ fn leads_back(n: usize, arrows: &[[u16; 2]], links: &Links, root: Subtask) -> bo
                 queue[queued] = p as u16;
                 queued += 1;
             }
-            c = links.after(c);
+            c = graph.after(c);
         }
         if done == queued {
             return false;
@@ -45,19 +42,12 @@ fn leads_back(n: usize, arrows: &[[u16; 2]], links: &Links, root: Subtask) -> bo
 }
 
 // 7: the lowest subtask that the arrows lead back to; below `from` there is none.
-pub fn lowest_on_cycle(
-    n: usize,
-    arrows: &[[u16; 2]],
-    links: &Links,
-    from: Subtask,
-) -> Option<Subtask>
-    requires tidy { Tidy n arrows.now }
-    requires linked { Linked arrows.now links.now }
-    requires among { Among 1 n from.0 × ((j : ℕ) → j < from.0 → ¬ LeadsTo arrows.now j j) }
-    ensures { IsFirstSubtask n (λ j. LeadsTo arrows.now j j) result }
+pub fn lowest_on_cycle(graph: &Chained<'_>, from: Subtask) -> Option<Subtask>
+    requires { Among 1 graph.now.n from.0 × ((j : ℕ) → j < from.0 → ¬ LeadsTo graph.now.arrows.now j j) }
+    ensures { IsFirstSubtask graph.now.n (λ j. LeadsTo graph.now.arrows.now j j) result }
 {
-    for j in from.0..=n {
-        if leads_back(n, arrows, links, Subtask(j)) {
+    for j in from.0..=graph.n {
+        if leads_back(graph, Subtask(j)) {
             return Some(Subtask(j));
         }
     }

@@ -15,7 +15,7 @@ ghost use Rattle.graph.specs.Links.{IsEmpty};
 ghost use Rattle.graph.specs.Finds.{Finds, WrongEnds};
 ghost use Rattle.graph.specs.Scans.{AllJoin};
 
-use crate::chains::Links;
+use crate::chains::{Chained, Links};
 use crate::cycle::lowest_on_cycle;
 use crate::order::order_subtasks;
 use crate::scan::{all_join_two, first_loop, first_outside, first_repeat};
@@ -63,12 +63,13 @@ fn check_arrows(
         return Err(refuse_ends(n, arrows));
     }
     links.link(n, arrows);
-    if let Some(repeat) = first_repeat(n, arrows, links) {
+    let graph = Chained { n, arrows, links };
+    if let Some(repeat) = first_repeat(&graph) {
         return Err(Refusal::ArrowTwice(position_of(repeat)));
     }
-    match order_subtasks(n, arrows, links, order) {
+    match order_subtasks(&graph, order) {
         Ok(()) => Ok(()),
-        Err(from) => match lowest_on_cycle(n, arrows, links, from) {
+        Err(from) => match lowest_on_cycle(&graph, from) {
             Some(lowest) => Err(Refusal::Cycle(lowest.0 as u32)),
             None => unreachable!(),
         },
@@ -139,9 +140,14 @@ pub fn measure(times: &[u16], arrows: &[[u16; 2]]) -> Result<Weights, Refusal>
     let mut links = Links::none();
     let mut order = [0u16; 256];
     check_and_order(times, arrows, &mut links, &mut order)?;
+    let graph = Chained {
+        n: times.len(),
+        arrows,
+        links: &links,
+    };
     Ok(Weights {
         c: total(times),
-        p: longest(times, arrows, &links, &order),
+        p: longest(times, &graph, &order),
     })
 }
 

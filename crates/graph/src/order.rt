@@ -1,52 +1,42 @@
 // The order "predecessors first".
 ghost use Rattle.std.specs.Prelude.{◌≡◌, length};
-ghost use Rattle.terms.specs.Graphs.{to_of};
-ghost use Rattle.graph.specs.Chains.{Tidy};
-ghost use Rattle.graph.specs.Links.{Linked};
 ghost use Rattle.graph.specs.Ordered.{Orders};
 
-use crate::chains::{Links, source, target};
+use crate::chains::Chained;
 use terms::Subtask;
 
 // Whether the subtasks can stand in an order, predecessors first, which is left in `order`; else the arrows close a cycle, and the answer
 // is a subtask below which none is on one. It goes back along the arrows from each subtask in turn. At u, c is the position of the arrow that
 // is looked at; the arrows on the way to u stand on the stack. A mark is 1 where the subtask was not come to, its depth on the way and 2
 // where it is on the way, and 0 once it is placed.
-pub fn order_subtasks(
-    n: usize,
-    arrows: &[[u16; 2]],
-    links: &Links,
-    order: &mut [u16; 256],
-) -> Result<(), Subtask>
-    requires tidy { Tidy n arrows.now }
-    requires linked { Linked arrows.now links.now }
-    requires order_len { length order.old ≡ 256 }
-    ensures { Orders n arrows.now order.new result }
+pub fn order_subtasks(graph: &Chained<'_>, order: &mut [u16; 256]) -> Result<(), Subtask>
+    requires { length order.old ≡ 256 }
+    ensures { Orders graph.now.n graph.now.arrows.now order.new result }
 {
     let mut mark = [1u16; 257];
     let mut stack = [0u16; 256];
     let mut placed: usize = 0;
-    for root in 1..=n {
+    for root in 1..=graph.n {
         if mark[root] != 1 {
             continue;
         }
         mark[root] = 2;
         let mut depth: usize = 0;
         let mut u = root;
-        let mut c = links.begin(Subtask(root));
+        let mut c = graph.begin(Subtask(root));
         loop {
             if c != 0 {
-                let from = source(arrows, c);
+                let from = graph.source(c);
                 let p = from.0;
                 let m = mark[p];
                 if m == 0 {
-                    c = links.after(c);
+                    c = graph.after(c);
                 } else if m == 1 {
                     stack[depth] = c as u16;
                     depth += 1;
                     mark[p] = (depth + 2) as u16;
                     u = p;
-                    c = links.begin(from);
+                    c = graph.begin(from);
                 } else {
                     return Err(Subtask(root));
                 }
@@ -59,9 +49,9 @@ pub fn order_subtasks(
                 }
                 depth -= 1;
                 let a = usize::from(stack[depth]);
-                let to = target(arrows, a);
+                let to = graph.target(a);
                 u = to.0;
-                c = links.after(a);
+                c = graph.after(a);
             }
         }
     }

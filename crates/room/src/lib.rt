@@ -9,34 +9,18 @@ ghost use Rattle.room.specs.Puts.{Put};
 pub fn number_size(x: u32) -> usize
     ensures { (result ≡ length (decimal x)) × (1 ≤ result) × (result ≤ 10) }
 {
-    if x < 10 {
-        return 1;
+    match x {
+        0..=9 => 1,
+        10..=99 => 2,
+        100..=999 => 3,
+        1000..=9999 => 4,
+        10000..=99999 => 5,
+        100000..=999999 => 6,
+        1000000..=9999999 => 7,
+        10000000..=99999999 => 8,
+        100000000..=999999999 => 9,
+        _ => 10,
     }
-    if x < 100 {
-        return 2;
-    }
-    if x < 1000 {
-        return 3;
-    }
-    if x < 10000 {
-        return 4;
-    }
-    if x < 100000 {
-        return 5;
-    }
-    if x < 1000000 {
-        return 6;
-    }
-    if x < 10000000 {
-        return 7;
-    }
-    if x < 100000000 {
-        return 8;
-    }
-    if x < 1000000000 {
-        return 9;
-    }
-    10
 }
 
 // One byte.
@@ -55,20 +39,14 @@ pub fn put_number(text: &mut [u8], at: usize, x: u32) -> usize
     ensures { Put text.old at (decimal x) text.new result }
 {
     let size = number_size(x);
-    if text.len() < at {
+    if text.len().saturating_sub(at) < size {
         return at;
     }
-    if text.len() - at < size {
-        return at;
-    }
-    let past = at + size;
-    let mut i = past;
     let mut rest = x;
-    while 10 <= rest {
-        i -= 1;
-        text[i] = (48 + rest % 10) as u8;
+    for i in (at + 1..at + size).rev() {
+        text[i] = b'0' + (rest % 10) as u8;
         rest /= 10;
     }
-    text[at] = (48 + rest) as u8;
-    past
+    text[at] = b'0' + rest as u8;
+    at + size
 }

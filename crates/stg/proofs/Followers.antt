@@ -6,19 +6,20 @@ use Prim.Native.Nat.{ℕ, suc, ◌+◌, ◌≤◌, ◌<◌}
 use native.Mathlib.Omega.{arith}
 use borrow.Author.Tests.{ne_eqb}
 use lib.Dec.{eqb}
+use Rattle.std.specs.Prelude.{Option, Some, None}
 use lib.ListN.{length, get_or, drop, drop_of_length-le}
 use lib.Seq.{drop-cons, drop-drop}
 use Rattle.terms.specs.Texts.{all_pass, begins, onto, is_blank, is_field, value, lines, fields, proper, numbers, ends_here}
-use Rattle.terms.specs.Rows.{refusal_of}
 use Rattle.terms.specs.Readings.{refuse, graph, may_follow, trailer}
 use Rattle.text.specs.Steps.{line_size}
 use Rattle.text.specs.Rest.{line}
-use Rattle.text.proofs.Standing.{Ended}
+use Rattle.text.specs.Standing.{Ended}
 use Rattle.text.proofs.Places.{size_within}
 use Rattle.text.proofs.Lines.{later_size, size_on}
-use Rattle.stg.specs.LinesRead.{Follower}
-use Rattle.stg.proofs.NextNumbers.{SomeNumber}
+use Rattle.stg.specs.LinesRead.{Follower, FollowerOf}
+use Rattle.stg.specs.Numbers.{SomeNumber, LineEndOf}
 use Rattle.stg.proofs.OneLine.{lines_at}
+use Rattle.terms.specs.declared.Refusal.TheVariants.{TaskLine}
 
 abbrev none : List (List ℕ) → Bool
 none [] = true
@@ -74,11 +75,11 @@ module _ (text : List ℕ) (at : ℕ) (h : at < length text) where
       }
 
   module _ (s : get_or text at 0 ≡ 35 → ⊥) where
-    pub follower_some : SomeNumber text at → may_follow (line (drop at text)) ≡ false
+    follower_some : SomeNumber text at → may_follow (line (drop at text)) ≡ false
     unfolding may_follow proper numbers
     follower_some k = rw (blank_line (line (drop at text)), some_fields (fields (line (drop at text))) k, not_sharp s)
 
-    pub follower_blank : (e : ℕ) → Ended text at e → Follower text at e
+    follower_blank : (e : ℕ) → Ended text at e → Follower text at e
     unfolding may_follow numbers
     follower_blank e q =
         record {
@@ -88,11 +89,15 @@ module _ (text : List ℕ) (at : ℕ) (h : at < length text) where
           on = q.on h;
         }
 
+    pub followed : (r : Option ℕ) → LineEndOf text at r → FollowerOf text at r
+    followed None k = follower_some k
+    followed (Some e) q = follower_blank e q
+
   pub trailer_more : (e : ℕ) → Follower text at e → trailer (lines (drop at text)) ≡ trailer (lines (drop e text))
   unfolding trailer
   trailer_more e p = rw (lines_at text at h, p.may, p.next)
 
-  pub trailer_stop : may_follow (line (drop at text)) ≡ false → trailer (lines (drop at text)) ≡ refuse (refusal_of 22)
+  pub trailer_stop : may_follow (line (drop at text)) ≡ false → trailer (lines (drop at text)) ≡ refuse TaskLine
   unfolding trailer
   trailer_stop e = rw (lines_at text at h, e)
 

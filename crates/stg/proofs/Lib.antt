@@ -6,6 +6,5 @@ pub mod Followers
 pub mod SubtaskLines
 pub mod AllLines
 pub mod Clipped
-pub mod ClearedRows
 pub mod TwoEnds
 pub mod Replied

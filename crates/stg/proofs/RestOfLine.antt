@@ -12,7 +12,7 @@ use lib.Dec.{ltb}
 use Rattle.terms.specs.Texts.{all_pass, proper, numbers}
 use Rattle.terms.specs.Readings.{arrows_into}
 use Rattle.text.specs.Rest.{line, later}
-use Rattle.text.proofs.Standing.{Passed, Ended}
+use Rattle.text.specs.Standing.{Passed, Ended}
 use Rattle.stg.specs.LinesRead.{held, Added, PredecessorsAre}
 use Rattle.stg.proofs.AddedArrows.{added_counts, added_holds, added_few}
 

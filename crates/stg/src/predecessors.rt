@@ -15,38 +15,11 @@ pub struct Rest {
     pub next: usize,
 }
 
-#[derive(Clone, Copy)]
-pub enum Predecessors {
-    Misshapen,
-    Are(Rest),
-}
-
-pub fn narrow(x: usize) -> u16
-    requires { x < 65536 }
-    ensures { result ≡ x }
-{
-    x as u16
-}
-
 // A predecessor as the row holds it: what 16 bits cannot hold is no subtask's number either way.
 fn clip(predecessor: Subtask) -> u16
     ensures { result ≡ clipped predecessor.0 }
 {
-    let p = predecessor.0;
-    if 65535 < p {
-        return 65535;
-    }
-    narrow(p)
-}
-
-// Whether the predecessors are all below i, with one more of them.
-fn still_below(below: bool, predecessor: Subtask, i: usize) -> bool
-    ensures { result ≡ (below && ltb predecessor.0 i) }
-{
-    if predecessor.0 < i {
-        return below;
-    }
-    false
+    u16::try_from(predecessor.0).unwrap_or(u16::MAX)
 }
 
 // The arrow of a predecessor: 0 gives none, and one beyond the row is counted only.
@@ -57,21 +30,20 @@ fn add_arrow(from: Subtask, to: Subtask, arrows: &mut [[u16; 2]], a: usize) -> u
     if from.0 == 0 {
         return a;
     }
-    if arrows.len() <= a {
-        return a + 1;
+    if a < arrows.len() {
+        arrows[a] = [clip(from), to.0 as u16];
     }
-    arrows[a] = [clip(from), narrow(to.0)];
     a + 1
 }
 
-// Goes along the rest of the line at `at`; each number on it is a predecessor of task i.
+// Goes along the rest of the line at `at`; each number on it is a predecessor of task i. Nothing where a piece of it is no number.
 pub fn take_predecessors(
     text: &[u8],
     at: usize,
     i: usize,
     arrows: &mut [[u16; 2]],
     a: usize,
-) -> Predecessors
+) -> Option<Rest>
     requires { (at ≤ length text.now) × (i < 65536) × (a ≤ at) }
     ensures { PredecessorsOf text.now at i arrows.old a arrows.new result }
 {
@@ -81,11 +53,9 @@ pub fn take_predecessors(
     let mut b = a;
     loop {
         match next_number(text, here) {
-            Next::Misshapen => {
-                return Predecessors::Misshapen;
-            }
+            Next::Misshapen => return None,
             Next::LineEnd(e) => {
-                return Predecessors::Are(Rest {
+                return Some(Rest {
                     count: k,
                     below,
                     arrows: b,
@@ -93,7 +63,7 @@ pub fn take_predecessors(
                 });
             }
             Next::Field(p, e) => {
-                below = still_below(below, Subtask(p), i);
+                below &= p < i;
                 b = add_arrow(Subtask(p), Subtask(i), arrows, b);
                 here = e;
             }

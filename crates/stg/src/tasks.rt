@@ -2,23 +2,17 @@
 ghost use Rattle.std.specs.Prelude.{◌≤◌, ◌<◌, length};
 ghost use Rattle.stg.specs.LinesRead.{TaskOf, SubtaskOf, SubtasksOf};
 
-use super::predecessors::{Predecessors, narrow, take_predecessors};
-use terms::{Refusal, refuse};
-use text::{Next, next_number};
+use super::numbers::number;
+use super::predecessors::take_predecessors;
+use terms::Refusal;
 
 // A task's line: its time, whether its predecessors are all below its index, how many arrows there are then, and where the next line begins.
 #[derive(Clone, Copy)]
-pub struct TaskLine {
+pub struct Task {
     pub time: usize,
     pub below: bool,
     pub arrows: usize,
     pub next: usize,
-}
-
-#[derive(Clone, Copy)]
-pub enum Task {
-    Misshapen,
-    Is(TaskLine),
 }
 
 // How far the text is read: how many subtasks, or arrows, there are so far, and where the next line begins.
@@ -28,37 +22,29 @@ pub struct Progress {
     pub next: usize,
 }
 
-#[derive(Clone, Copy)]
-pub enum Step {
-    Refused(Refusal),
-    Counted(Progress),
-}
-
 // The line of task i: its index, its time, the number of its predecessors, and as many predecessors.
-pub fn task_line(text: &[u8], at: usize, i: usize, arrows: &mut [[u16; 2]], a: usize) -> Task
+pub fn task_line(
+    text: &[u8],
+    at: usize,
+    i: usize,
+    arrows: &mut [[u16; 2]],
+    a: usize,
+) -> Option<Task>
     requires { (at ≤ length text.now) × (i < 65536) × (a ≤ at) }
     ensures { TaskOf text.now at i arrows.old a arrows.new result }
 {
-    let Next::Field(index, past_index) = next_number(text, at) else {
-        return Task::Misshapen;
-    };
+    let (index, past_index) = number(text, at)?;
     if index != i {
-        return Task::Misshapen;
+        return None;
     }
-    let Next::Field(t, past_time) = next_number(text, past_index) else {
-        return Task::Misshapen;
-    };
-    let Next::Field(count, past_count) = next_number(text, past_time) else {
-        return Task::Misshapen;
-    };
-    let Predecessors::Are(rest) = take_predecessors(text, past_count, i, arrows, a) else {
-        return Task::Misshapen;
-    };
+    let (time, past_time) = number(text, past_index)?;
+    let (count, past_count) = number(text, past_time)?;
+    let rest = take_predecessors(text, past_count, i, arrows, a)?;
     if count != rest.count {
-        return Task::Misshapen;
+        return None;
     }
-    Task::Is(TaskLine {
-        time: t,
+    Some(Task {
+        time,
         below: rest.below,
         arrows: rest.arrows,
         next: rest.next,
@@ -73,19 +59,18 @@ fn take_subtask(
     times: &mut [u16],
     arrows: &mut [[u16; 2]],
     a: usize,
-) -> Step
+) -> Result<Progress, Refusal>
     requires { (at ≤ length text.now) × (j < 256) × (256 ≤ length times.old) × (a ≤ at) }
     ensures { SubtaskOf text.now at j a times.old arrows.old times.new arrows.new result }
 {
-    let Task::Is(line) = task_line(text, at, j + 1, arrows, a) else {
-        return Step::Refused(refuse(22));
+    let Some(line) = task_line(text, at, j + 1, arrows, a) else {
+        return Err(Refusal::TaskLine);
     };
-    let t = line.time;
-    if 65535 < t {
-        return Step::Refused(refuse(24));
-    }
-    times[j] = narrow(t);
-    Step::Counted(Progress {
+    let Ok(time) = u16::try_from(line.time) else {
+        return Err(Refusal::TimeLarge);
+    };
+    times[j] = time;
+    Ok(Progress {
         count: line.arrows,
         next: line.next,
     })
@@ -98,27 +83,13 @@ pub fn take_subtasks(
     n: usize,
     times: &mut [u16],
     arrows: &mut [[u16; 2]],
-) -> Step
+) -> Result<Progress, Refusal>
     requires { (at ≤ length text.now) × (n ≤ 256) × (256 ≤ length times.old) }
     ensures { SubtasksOf text.now at n times.old arrows.old times.new arrows.new result }
 {
-    let mut here = at;
-    let mut a: usize = 0;
-    let mut j: usize = 0;
-    while j < n {
-        match take_subtask(text, here, j, times, arrows, a) {
-            Step::Refused(refusal) => {
-                return Step::Refused(refusal);
-            }
-            Step::Counted(far) => {
-                a = far.count;
-                here = far.next;
-            }
-        }
-        j += 1;
+    let mut far = Progress { count: 0, next: at };
+    for j in 0..n {
+        far = take_subtask(text, far.next, j, times, arrows, far.count)?;
     }
-    Step::Counted(Progress {
-        count: a,
-        next: here,
-    })
+    Ok(far)
 }

@@ -1,15 +1,8 @@
 -- The digits of a field, one by one: what is read and what is left make up the same number, which stays small. Assumes nothing.
-use Prim.Native.Nat.{ℕ, zero, suc, ◌+◌, ◌-◌, ◌*◌, ◌^◌, ◌≤◌, ◌<◌}
-use mathlib.Core.Path.{◌≡◌, refl, ◌∙◌}
-use mathlib.Core.List.{List, [], ◌∷◌}
-use mathlib.Core.Bool.{Bool, true, false, ◌&&◌}
-use native.Mathlib.Omega.{arith}
-use native.Mathlib.Nat.{pow-suc, pow-le-pow_right}
-use native.Mathlib.Numerals.{add-one}
-use lib.ListN.{length, drop, get_or, drop_of_length-le}
-use lib.Seq.{drop-cons}
-use borrow.Author.Tests.{leb-true}
-use lib.Dec.{leb}
+use Rattle.std.proofs.Common.{◌≡◌, refl, ap, ◌∙◌, ℕ, zero, suc, ◌+◌, ◌-◌, ◌*◌, ◌^◌, ◌≤◌, ◌<◌, List, [], ◌∷◌, Bool, true, false, ◌&&◌, leb, length, take, drop, get_or}
+use Rattle.std.proofs.Common.{arith, pow-suc, add-one, drop_of_length-le, drop-cons, get_or-drop, leb-true}
+use Rattle.std.proofs.lemmas.List.{take_rest}
+use native.Mathlib.Nat.{pow-le-pow_right}
 use Rattle.terms.specs.Texts.{all_pass, is_digit, value_from, value}
 
 pub false_true : {P : Type 0} → false ≡ true → P
@@ -28,6 +21,10 @@ unfolding all_pass
 digit_at [] i e h = absurd (omega arith)
 digit_at (b ∷ s) zero e h = digit_bounds b (both (is_digit b) (all_pass is_digit s) e).0
 digit_at (b ∷ s) (suc i) e h = digit_at s i (both (is_digit b) (all_pass is_digit s) e).1 (omega arith)
+
+-- the digits behind the first
+pub behind_first : (s : List ℕ) (i : ℕ) → get_or (take (length s - 1) (drop 1 s)) i 0 ≡ get_or s (i + 1) 0
+behind_first s i = rw (take_rest s 1, get_or-drop 1 s i 0) (let e : 1 + i ≡ i + 1 = omega arith in ap (λ (k : ℕ). get_or s k 0) e)
 
 -- ---- the number of a field, digit by digit
 

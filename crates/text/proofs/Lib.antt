@@ -1,5 +1,4 @@
 pub mod Digits
 pub mod Places
 pub mod Lines
-pub mod Standing
 pub mod Steps

@@ -70,7 +70,7 @@ shorter : (t : Bool) (n m : ℕ) → n ≤ m → cond t (suc n) 0 ≤ suc m
 shorter true n m h = omega arith
 shorter false n m h = omega arith
 
-blanks_le : (s : List ℕ) → blanks s ≤ length s
+pub blanks_le : (s : List ℕ) → blanks s ≤ length s
 unfolding blanks
 blanks_le [] = omega arith
 blanks_le (b ∷ s) = shorter (is_blank b) (blanks s) (length s) (blanks_le s)
@@ -79,7 +79,7 @@ longer : (t : Bool) (n m : ℕ) → n ≤ m → cond t 1 (suc n) ≤ suc m
 longer true n m h = omega arith
 longer false n m h = omega arith
 
-size_le : (s : List ℕ) → line_size s ≤ length s
+pub size_le : (s : List ℕ) → line_size s ≤ length s
 unfolding line_size
 size_le [] = omega arith
 size_le (b ∷ s) = longer (is_feed b) (line_size s) (length s) (size_le s)
@@ -88,7 +88,7 @@ short : (t : Bool) (b : ℕ) (d : List ℕ) (m : ℕ) → length d ≤ m → len
 short true b d m h = omega arith
 short false b d m h = omega arith
 
-digits_le : (s : List ℕ) → length (digits s) ≤ length s
+pub digits_le : (s : List ℕ) → length (digits s) ≤ length s
 unfolding digits
 digits_le [] = omega arith
 digits_le (b ∷ s) = short (is_digit b) b (digits s) (length s) (digits_le s)

@@ -1,5 +1,5 @@
 -- What stands next at a place of a text: the equations of `next_number`, and what it tells about the line there. Assumes nothing.
-use Prim.Native.Nat.{ℕ, suc, ◌+◌, ◌≤◌, ◌<◌}
+use Prim.Native.Nat.{ℕ, ◌+◌, ◌≤◌, ◌<◌}
 use mathlib.Core.Path.{◌≡◌, refl, sym, ◌∙◌, ap}
 use mathlib.Core.List.{List, [], ◌∷◌, ◌++◌}
 use mathlib.Core.Bool.{Bool, true, false, cond, ◌&&◌, and-true}
@@ -7,41 +7,36 @@ use native.Mathlib.Omega.{arith}
 use native.Mathlib.Nat.{add-zero, eq-or-lt_of_le}
 use mathlib.Core.Logic.{⊎_elim}
 use lib.Dec.{leb}
-use lib.ListN.{length, drop, get_or, drop_of_length-le}
-use lib.Seq.{drop-cons, drop-drop}
+use lib.ListN.{length, drop, get_or}
+use lib.Seq.{drop-drop}
 use borrow.Author.Tests.{ne_eqb, le-leb, lt-leb}
 use Rattle.terms.specs.Texts.{all_pass, is_digit, fields, is_field, value, proper, numbers, ends_here, blanks, digits}
 use Rattle.text.specs.declared.Next.{Next}
 use Rattle.text.specs.declared.Next.TheVariants as next
 use Rattle.text.specs.Steps.{line_size, no_number, next_at, next_number}
 use Rattle.text.specs.Rest.{line, later}
-use Rattle.text.proofs.Standing.{Ended, Stands}
+use Rattle.text.specs.Standing.{Ended, Stands}
 use Rattle.text.proofs.Digits.{false_true}
-use Rattle.text.proofs.Places.{size_stop, blanks_within, digits_within, size_within}
+use Rattle.text.proofs.Places.{blanks_within, digits_within, size_within}
 use Rattle.text.proofs.Lines.{fields_blanks, later_blanks, blanks_none, Run, run, FieldOrSpoilt, field_or_spoilt, line_off, spoilt}
-use Rattle.text.proofs.Lines.{size_return, fields_none, proper_none, numbers_none, later_size, size_on}
+use Rattle.text.proofs.Lines.{fields_none, proper_none, numbers_none, later_size, size_on}
 
 -- each of the digits is one
 pub digits_all : (text : List ℕ) (start : ℕ) (d : List ℕ) → d ≡ digits (drop start text) → all_pass is_digit d ≡ true
 digits_all text start d q = rw q (run (drop start text)).all
 
--- ---- what stands at a place where no digit is
+-- ---- what stands at a place where no digit is, given the text from there on
 
-pub none_end : (text : List ℕ) (at : ℕ) → length text ≤ at → next.LineEnd at ≡ no_number at (drop at text)
-none_end text at h = rw (drop_of_length-le text h)
+pub none_feed : (place : ℕ) (s : List ℕ) → get_or s 0 0 ≡ 10 → next.LineEnd (place + 1) ≡ no_number place s
+unfolding line_size
+none_feed place [] e = absurd (omega arith)
+none_feed place (b ∷ s) e = rw e
 
-module _ (text : List ℕ) (at : ℕ) (h : at < length text) where
-  from_here : ends_here (drop at text) ≡ ends_here (get_or text at 0 ∷ drop (suc at) text)
-  from_here = ap ends_here (drop-cons text at 0 h)
-
-  pub none_bad : ends_here (drop at text) ≡ false → next.Misshapen ≡ no_number at (drop at text)
-  none_bad e = rw (drop-cons text at 0 h, sym from_here ∙ e)
-
-  pub none_feed : ends_here (drop at text) ≡ true → get_or text at 0 ≡ 10 → next.LineEnd (at + 1) ≡ no_number at (drop at text)
-  none_feed e f = rw (drop-cons text at 0 h, sym from_here ∙ e, ← drop-cons text at 0 h, size_stop text at h f)
-
-  pub none_return : ends_here (drop at text) ≡ true → (get_or text at 0 ≡ 10 → ⊥) → next.LineEnd (at + 2) ≡ no_number at (drop at text)
-  none_return e f = rw (drop-cons text at 0 h, sym from_here ∙ e, size_return (get_or text at 0) (drop (suc at) text) f (sym from_here ∙ e))
+pub none_return : (place : ℕ) (s : List ℕ) → 2 ≤ length s → get_or s 0 0 ≡ 13 → get_or s 1 0 ≡ 10 → next.LineEnd (place + 2) ≡ no_number place s
+unfolding line_size
+none_return place [] h e f = absurd (omega arith)
+none_return place (b ∷ []) h e f = absurd (omega arith)
+none_return place (b ∷ d ∷ s) h e f = rw (e, f)
 
 -- ---- what stands at `at`, where the spaces and tabs end at `start`
 

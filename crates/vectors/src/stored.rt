@@ -1,8 +1,9 @@
 // What the planner says of a text, held to the output that an independent implementation gave for it. A text that reads is written too, and
 // what was written is held to the same output.
+use forms::blank;
 use inputs::order_by_number;
-use listplan::draft_plan;
-use plancheck::check_table;
+use listplan::list_plan;
+use plancheck::check_plan;
 use std::slice::Iter;
 use stg::{read_stg, write_stg};
 use terms::{Refusal, Verdict};
@@ -65,22 +66,10 @@ fn figures_agree(times: &[u16], arrows: &[[u16; 2]], line: Line) -> bool {
 
 // The list plan's end, which the plan check gives too.
 fn plan_agrees(times: &[u16], arrows: &[[u16; 2]], line: Line, order: &[u16]) -> bool {
-    let n = times.len();
-    let draft = draft_plan(times, arrows, line.m, order, n);
-    let reply = draft.reply;
-    let entries = draft.entries;
-    match reply {
-        PlanEnd::Refused(_) => false,
-        PlanEnd::Ends(end) => {
-            if end != line.end {
-                return false;
-            }
-            match check_table(times, arrows, line.m, entries, n) {
-                PlanEnd::Refused(_) => false,
-                PlanEnd::Ends(checked) => checked == end,
-            }
-        }
-    }
+    let mut room = blank();
+    let plan = &mut room[..times.len().min(256)];
+    list_plan(times, arrows, line.m, order, plan) == Ok(line.end)
+        && check_plan(times, arrows, line.m, plan) == Ok(line.end)
 }
 
 // The lines for 1 to 4 processors, behind the header.

@@ -3,19 +3,16 @@ use mathlib.Core.Path.{◌≡◌, refl, ap, ap₂, ◌∙◌}
 use mathlib.Core.List.{List, [], ◌∷◌, ◌++◌}
 use Prim.Native.Nat.{ℕ, ◌+◌, ◌-◌, ◌≤◌, ◌<◌}
 use native.Mathlib.Omega.{arith}
-use lib.ListN.{length, take, drop, replicate, length-take}
-use Rattle.terms.specs.Rows.{Accepted, row, refusal_of}
+use lib.ListN.{length, take, drop, replicate, length-take, length-replicate}
+use Rattle.terms.specs.Rows.{Accepted, RefusedBy, row}
 use Rattle.terms.specs.Arrangements.{predecessors_of, sources_of, lasts_of, row_of}
 use Rattle.terms.specs.Writings.{text_of, with_count, subtask_lines, exit_numbers, stg_lines, stg_text}
 use Rattle.terms.specs.Refusals.{graph_rows, write_rows}
-use Rattle.terms.specs.Replies.{IsCheck, IsArranged, IsWritten}
-use Rattle.terms.specs.declared.Check.{Check}
-use Rattle.terms.specs.declared.Check.TheVariants as check
+use Rattle.terms.specs.Replies.{IsArranged, IsWritten}
 use Rattle.terms.specs.declared.Refusal.{Refusal}
-use Rattle.terms.specs.declared.Written.{Written}
-use Rattle.terms.specs.declared.Written.TheVariants as written
-use Rattle.theory.proofs.Accepted.{sound_graph, accepted_graph}
-use Rattle.theory.proofs.Answers.{refused_first, Passed, begin, past, past_all, stop_with, done}
+use Rattle.theory.proofs.Accepted.{sound_graph, accepted_graph, accepted_arrange}
+use Rattle.theory.proofs.Answers.{not_both, refused_first, Passed, begin, past, past_all, stop, done}
+use Rattle.terms.proofs.Decisions.{told}
 use Rattle.theory.proofs.TimesOver.{sources_accepted}
 use Rattle.theory.proofs.OneArranged.{begin_within}
 use Rattle.arranged.proofs.OwnTables.{in_tables}
@@ -23,26 +20,27 @@ use Rattle.room.specs.Puts.{Stands}
 use Rattle.room.proofs.Puts.{stands_left}
 use Rattle.writer.specs.Lines.{rows_text, Rows, SoundRows}
 use Rattle.writer.specs.Fronts.{Writes}
+use Rattle.std.specs.Prelude.{Result, Ok, Err}
+use Rattle.terms.specs.declared.Refusal.TheVariants.{Room}
 
 -- the front of a row is no longer than it should be
 pub front_short : (k : ℕ) (row : List ℕ) → length (take k row) ≤ k
 front_short k row = omega (arith, length-take k row)
 
 -- a graph that is not accepted
-pub refused_graph : (times : List ℕ) (arrows : List (List ℕ)) (room : List ℕ) (r : Check) (refusal : Refusal) → IsCheck (graph_rows times arrows) r
-    → r ≡ check.Refused refusal → IsWritten times arrows room room (written.Refused refusal)
-unfolding IsCheck IsWritten write_rows
-refused_graph times arrows room r refusal answer e = (refused_first (graph_rows times arrows) _ refusal (rw e at answer), refl)
+pub refused_graph : (times : List ℕ) (arrows : List (List ℕ)) (room : List ℕ) (refusal : Refusal) → RefusedBy (graph_rows times arrows) refusal
+    → IsWritten times arrows room room (Err refusal)
+unfolding IsWritten write_rows
+refused_graph times arrows room refusal refused = (refused_first (graph_rows times arrows) _ refusal refused, refl)
 
 -- ---- written or refused
 
-pub writes_none : (bytes before : List ℕ) (size : ℕ) (refusal : Refusal) → size ≡ length bytes → length before < size → refusal ≡ refusal_of 11
-    → Writes bytes before before (written.Refused refusal)
+pub writes_none : (bytes before : List ℕ) (size : ℕ) → size ≡ length bytes → length before < size → Writes bytes before before (Err Room)
 unfolding Writes
-writes_none bytes before size refusal e l n = (omega (arith, e, l), n, refl)
+writes_none bytes before size e l = (omega (arith, e, l), refl, refl)
 
 pub writes_all : (bytes : List ℕ) {before after : List ℕ} {past : ℕ} (size : ℕ) → size ≡ length bytes → size ≤ length before → Stands before 0 bytes after past
-    → Writes bytes before after (written.Bytes size)
+    → Writes bytes before after (Ok size)
 unfolding Writes
 writes_all bytes {before} {after} {past} size e l s =
     let behind : past ≡ size = omega (arith, e, s.next) in
@@ -85,22 +83,32 @@ module _ {times : List ℕ} {arrows : List (List ℕ)} {begins numbers : List �
   unfolding write_rows
   asked room = past_all (graph_rows times arrows) (begin (write_rows times arrows room)) (accepted_graph times arrows rows.sound)
 
-  pub written_rows : (lasts before after : List ℕ) (r : Written) → lasts ≡ lasts_of n arrows → Writes (rows_text times begins numbers lasts) before after r
+  pub written_rows : (lasts before after : List ℕ) (r : Result ℕ Refusal) → lasts ≡ lasts_of n arrows → Writes (rows_text times begins numbers lasts) before after r
       → IsWritten times arrows before after r
   unfolding Writes IsWritten
-  written_rows lasts before after (written.Bytes k) e (l, s, h) =
+  written_rows lasts before after (Ok k) e (l, s, h) =
       let same = text_is lasts e in (
         done (past (asked (length before)) (λ short. omega (arith, short, l, ap length same))),
         s ∙ ap length same,
         h ∙ ap (λ (t : List ℕ). t ++ drop k before) same,
       )
-  written_rows lasts before after (written.Refused refusal) e (l, s, h) =
-      (stop_with (asked (length before)) (omega (arith, l, ap length (text_is lasts e))) s, h)
+  written_rows lasts before after (Err refusal) e (l, s, h) =
+      rw s (stop (asked (length before)) (omega (arith, l, ap length (text_is lasts e))) told, h)
 
 -- ---- the arrangement over the writer's own tables
 
+-- it refuses none
+pub none_refused : (times : List ℕ) (arrows : List (List ℕ)) → Accepted (graph_rows times arrows) → (wanted : ℕ → List ℕ) (begins numbers : List ℕ)
+    (refusal : Refusal) → IsArranged wanted times arrows (replicate 257 0) (replicate 2048 0) begins numbers (Err refusal) → ⊥
+unfolding IsArranged
+none_refused times arrows accepted wanted begins numbers refusal answer =
+    let sound = sound_graph times arrows accepted in
+    let first = length-replicate {A = ℕ} 257 0 in
+    let rest = length-replicate {A = ℕ} 2048 0 in
+    not_both _ refusal (accepted_arrange times arrows _ _ sound (omega (arith, first, sound.count.high)) (omega (arith, rest, sound.few))) answer.0
+
 -- it leaves the rows of predecessors
-pub sound_arranged : (times : List ℕ) (arrows : List (List ℕ)) → Accepted (graph_rows times arrows) → (begins numbers : List ℕ) (r : Check)
+pub sound_arranged : (times : List ℕ) (arrows : List (List ℕ)) → Accepted (graph_rows times arrows) → (begins numbers : List ℕ) (r : Result (Unit {0}) Refusal)
     → IsArranged (sources_of (length times) arrows) times arrows (replicate 257 0) (replicate 2048 0) begins numbers r → SoundRows times arrows begins numbers
 sound_arranged times arrows accepted begins numbers r answer =
     let held = in_tables times arrows accepted _ begins numbers r answer in record {

@@ -147,13 +147,18 @@ module _ (task time : ℕ) (row : List ℕ) where
 
 -- ---- a subtask's line
 
--- with no predecessor it is the line with the one number 0; else that of its row
-pub subtask_none : (j time : ℕ) (row : List ℕ) → length row ≡ 0 → task_line j time (0 ∷ []) ≡ subtask_line j time row
-unfolding task_line subtask_line with_count
-subtask_none j time [] e = refl
-subtask_none j time (x ∷ row) e = absurd (omega arith)
+-- the count of a row and the row, where it has a predecessor; else the one number 0
+pub count_none : (row : List ℕ) → length row ≡ 0 → 1 ∷ 0 ∷ [] ≡ with_count row
+unfolding with_count
+count_none [] e = refl
+count_none (x ∷ row) e = absurd (omega arith)
 
-pub subtask_some : (j time : ℕ) (row : List ℕ) → ¬ (length row ≡ 0) → task_line j time row ≡ subtask_line j time row
-unfolding task_line subtask_line with_count
-subtask_some j time [] n = absurd (n refl)
-subtask_some j time (x ∷ row) n = refl
+pub count_some : (row : List ℕ) → ¬ (length row ≡ 0) → length row ∷ row ≡ with_count row
+unfolding with_count
+count_some [] n = absurd (n refl)
+count_some (x ∷ row) n = refl
+
+-- it is the line of these numbers
+pub subtask_shown : (j time : ℕ) (row : List ℕ) {shown : List ℕ} → length shown ∷ shown ≡ with_count row → task_line j time shown ≡ subtask_line j time row
+unfolding task_line subtask_line
+subtask_shown j time row e = ap (λ (ps : List ℕ). line (j ∷ time ∷ ps) ++ 10 ∷ []) e

@@ -16,7 +16,7 @@ use crate::lines::put_text;
 use crate::sizes::text_size;
 use arranged::{by_to, lasts};
 use graph::check;
-use terms::{Check, Written, refuse};
+use terms::Refusal;
 
 // The text where there is room for it, else 11.
 fn write_text(
@@ -25,17 +25,17 @@ fn write_text(
     numbers: &[u16],
     lasts: &[u16],
     text: &mut [u8],
-) -> Written
+) -> Result<usize, Refusal>
     requires { Rows times.now begins.now numbers.now × (length lasts.now ≤ 2048) }
     ensures { Writes (rows_text times.now begins.now numbers.now lasts.now)
         text.old text.new result }
 {
     let size = text_size(times, begins, numbers, lasts);
     if text.len() < size {
-        return Written::Refused(refuse(11));
+        return Err(Refusal::Room);
     }
     put_text(text, times, begins, numbers, lasts);
-    Written::Bytes(size)
+    Ok(size)
 }
 
 // The text of an accepted graph, over its rows of predecessors.
@@ -45,7 +45,7 @@ fn write_rows(
     begins: &[u16],
     numbers: &[u16],
     text: &mut [u8],
-) -> Written
+) -> Result<usize, Refusal>
     requires { SoundRows times.now arrows.now begins.now numbers.now }
     ensures { IsWritten times.now arrows.now text.old text.new result }
 {
@@ -55,22 +55,22 @@ fn write_rows(
 }
 
 // The text of an accepted graph. The arrangement has room for each such graph and refuses none.
-fn write_accepted(times: &[u16], arrows: &[[u16; 2]], text: &mut [u8]) -> Written
+fn write_accepted(times: &[u16], arrows: &[[u16; 2]], text: &mut [u8]) -> Result<usize, Refusal>
     requires { Accepted (graph_rows times.now arrows.now) }
     ensures { IsWritten times.now arrows.now text.old text.new result }
 {
     let mut begins = [0u16; 257];
     let mut numbers = [0u16; 2048];
-    by_to(times, arrows, &mut begins, &mut numbers);
+    let Ok(()) = by_to(times, arrows, &mut begins, &mut numbers) else {
+        unreachable!()
+    };
     write_rows(times, arrows, &begins, &numbers, text)
 }
 
 // Writes the STG text of a graph to the front of the lent room. 1 to 7 are asked before there are any tables for its arrows.
-pub fn write_graph(times: &[u16], arrows: &[[u16; 2]], text: &mut [u8]) -> Written
+pub fn write_graph(times: &[u16], arrows: &[[u16; 2]], text: &mut [u8]) -> Result<usize, Refusal>
     ensures { IsWritten times.now arrows.now text.old text.new result }
 {
-    match check(times, arrows) {
-        Check::Refused(refusal) => Written::Refused(refusal),
-        Check::Sound => write_accepted(times, arrows, text),
-    }
+    check(times, arrows)?;
+    write_accepted(times, arrows, text)
 }

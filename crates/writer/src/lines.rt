@@ -4,8 +4,7 @@ ghost use Rattle.terms.specs.Writings.{decimal};
 ghost use Rattle.room.specs.Puts.{HasRoom, Stands};
 ghost use Rattle.writer.specs.Lines.{task_line, subtask_line, subtasks_text, rows_text, Rows};
 
-use crate::rows::row_of;
-use inputs::u32_from_u16;
+use crate::rows::{row_of, shown};
 use room::{put_byte, put_number};
 
 // A further number of a line: a space, and the number.
@@ -13,7 +12,7 @@ fn put_further(text: &mut [u8], at: usize, x: u32) -> usize
     requires { HasRoom text.old at (32 ∷ decimal x) }
     ensures { Stands text.old at (32 ∷ decimal x) text.new result }
 {
-    let behind = put_byte(text, at, 32);
+    let behind = put_byte(text, at, b' ');
     put_number(text, behind, x)
 }
 
@@ -25,12 +24,10 @@ fn put_line(text: &mut [u8], at: usize, task: u32, time: u32, row: &[u16]) -> us
     let a = put_number(text, at, task);
     let b = put_further(text, a, time);
     let mut k = put_further(text, b, row.len() as u32);
-    let mut i: usize = 0;
-    while i < row.len() {
-        k = put_further(text, k, u32_from_u16(row[i]));
-        i += 1;
+    for x in row {
+        k = put_further(text, k, u32::from(*x));
     }
-    put_byte(text, k, 10)
+    put_byte(text, k, b'\n')
 }
 
 // A subtask's line: where it has no predecessor, it has the one predecessor 0.
@@ -38,11 +35,7 @@ fn put_subtask(text: &mut [u8], at: usize, j: u32, time: u32, row: &[u16]) -> us
     requires { (length row.now ≤ 2048) × HasRoom text.old at (subtask_line j time row.now) }
     ensures { Stands text.old at (subtask_line j time row.now) text.new result }
 {
-    if row.len() == 0 {
-        let nought = [0u16; 1];
-        return put_line(text, at, j, time, &nought);
-    }
-    put_line(text, at, j, time, row)
+    put_line(text, at, j, time, shown(row))
 }
 
 // The lines of all subtasks.
@@ -51,11 +44,9 @@ fn put_subtasks(text: &mut [u8], at: usize, times: &[u16], begins: &[u16], numbe
     ensures { Stands text.old at (subtasks_text times.now begins.now numbers.now) text.new result }
 {
     let mut k = at;
-    let mut i: usize = 0;
-    while i < times.len() {
+    for (i, time) in times.iter().enumerate() {
         let row = row_of(begins, numbers, i + 1);
-        k = put_subtask(text, k, (i + 1) as u32, u32_from_u16(times[i]), row);
-        i += 1;
+        k = put_subtask(text, k, (i + 1) as u32, u32::from(*time), row);
     }
     k
 }
@@ -74,11 +65,9 @@ pub fn put_text(
         text.new result }
 {
     let n = times.len() as u32;
-    let exit = n + 1;
-    let none = [0u16; 0];
     let a = put_number(text, 0, n);
-    let b = put_byte(text, a, 10);
-    let c = put_line(text, b, 0, 0, &none);
+    let b = put_byte(text, a, b'\n');
+    let c = put_line(text, b, 0, 0, &[]);
     let d = put_subtasks(text, c, times, begins, numbers);
-    put_line(text, d, exit, 0, lasts)
+    put_line(text, d, n + 1, 0, lasts)
 }

@@ -2,8 +2,7 @@
 ghost use Rattle.std.specs.Prelude.{◌≡◌, ◌≤◌, length};
 ghost use Rattle.writer.specs.Lines.{task_line, subtask_line, subtasks_text, rows_text, Rows};
 
-use crate::rows::row_of;
-use inputs::u32_from_u16;
+use crate::rows::{row_of, shown};
 use room::number_size;
 
 // A task's line: three numbers, two spaces between them and LF; and each further number with a space before it.
@@ -12,10 +11,8 @@ fn line_size(task: u32, time: u32, row: &[u16]) -> usize
     ensures { (result ≡ length (task_line task time row.now)) × (result ≤ 30000) }
 {
     let mut size = 3 + number_size(task) + number_size(time) + number_size(row.len() as u32);
-    let mut i: usize = 0;
-    while i < row.len() {
-        size += 1 + number_size(u32_from_u16(row[i]));
-        i += 1;
+    for x in row {
+        size += 1 + number_size(u32::from(*x));
     }
     size
 }
@@ -25,11 +22,7 @@ fn subtask_size(j: u32, time: u32, row: &[u16]) -> usize
     requires { length row.now ≤ 2048 }
     ensures { (result ≡ length (subtask_line j time row.now)) × (result ≤ 30000) }
 {
-    if row.len() == 0 {
-        let nought = [0u16; 1];
-        return line_size(j, time, &nought);
-    }
-    line_size(j, time, row)
+    line_size(j, time, shown(row))
 }
 
 // The lines of all subtasks.
@@ -38,11 +31,9 @@ fn subtasks_size(times: &[u16], begins: &[u16], numbers: &[u16]) -> usize
     ensures { (result ≡ length (subtasks_text times.now begins.now numbers.now)) × (result ≤ 8000000) }
 {
     let mut size: usize = 0;
-    let mut i: usize = 0;
-    while i < times.len() {
+    for (i, time) in times.iter().enumerate() {
         let row = row_of(begins, numbers, i + 1);
-        size += subtask_size((i + 1) as u32, u32_from_u16(times[i]), row);
-        i += 1;
+        size += subtask_size((i + 1) as u32, u32::from(*time), row);
     }
     size
 }
@@ -53,8 +44,6 @@ pub fn text_size(times: &[u16], begins: &[u16], numbers: &[u16], lasts: &[u16]) 
     ensures { result ≡ length (rows_text times.now begins.now numbers.now lasts.now) }
 {
     let n = times.len() as u32;
-    let exit = n + 1;
-    let none = [0u16; 0];
-    let head = number_size(n) + 1 + line_size(0, 0, &none);
-    head + subtasks_size(times, begins, numbers) + line_size(exit, 0, lasts)
+    let head = number_size(n) + 1 + line_size(0, 0, &[]);
+    head + subtasks_size(times, begins, numbers) + line_size(n + 1, 0, lasts)
 }

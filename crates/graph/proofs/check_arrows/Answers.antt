@@ -20,8 +20,8 @@ link-requires c =
     let joins : Joined c.args.times.now c.args.arrows.now = joined _ _ c.requires.accepted c.if-not-all_join_two.ensures in
     record { tidy = joins.tidy; empty = c.requires.empty.0 }
 
-pub first_repeat-requires-clause-tidy : goal.first_repeat-requires-clause-tidy
-first_repeat-requires-clause-tidy c = (joined _ _ c.requires.accepted c.if-not-all_join_two.ensures).tidy
+pub invariant_of-graph : goal.invariant_of-graph
+invariant_of-graph c = record { tidy = (joined _ _ c.requires.accepted c.if-not-all_join_two.ensures).tidy; linked = c.link.ensures }
 
 pub position_of-requires : goal.position_of-requires
 position_of-requires c = found_small c.args.arrows.now _ _ (few _ _ c.requires.accepted).1 c.in-Some.ensures
@@ -31,9 +31,6 @@ returns-in-Some c =
     let joins : Joined c.args.times.now c.args.arrows.now = joined _ _ c.requires.accepted c.if-not-all_join_two.ensures in
     rw c.position_of.ensures (refused (refused_6 _ _ joins _ c.in-Some.ensures))
 
-pub order_subtasks-requires-clause-tidy : goal.order_subtasks-requires-clause-tidy
-order_subtasks-requires-clause-tidy c = (joined _ _ c.requires.accepted c.if-not-all_join_two.ensures).tidy
-
 pub returns-in-Ok : goal.returns-in-Ok
 returns-in-Ok c =
     let joins : Joined c.args.times.now c.args.arrows.now = joined _ _ c.requires.accepted c.if-not-all_join_two.ensures in
@@ -41,9 +38,7 @@ returns-in-Ok c =
     sound (accepted _ _ once joins.tidy c.in-Ok.ensures) c.link.ensures c.in-Ok.ensures
 
 pub lowest_on_cycle-requires : goal.lowest_on_cycle-requires
-lowest_on_cycle-requires c =
-    let joins : Joined c.args.times.now c.args.arrows.now = joined _ _ c.requires.accepted c.if-not-all_join_two.ensures in
-    record { tidy = joins.tidy; linked = c.link.ensures; among = (c.in-Err.ensures.is, c.in-Err.ensures.below) }
+lowest_on_cycle-requires c = (c.in-Err.ensures.is, c.in-Err.ensures.below)
 
 -- a subtask's number is no larger than 256
 pub overflow_cast-result : goal.overflow_cast-result

@@ -1,38 +1,34 @@
 -- `number_size`: as many digits as the number has. Assumes nothing.
-use mathlib.Core.Path.{sym, ap}
-use native.Mathlib.Omega.{arith}
-use lib.ListN.{length}
+use Rattle.std.proofs.Common.{ap, length, arith}
 use Rattle.theory.proofs.Decimals.{decimal_digit, decimal_size}
 use Rattle.room.proofs.number_size.Goals as goal
 
-pub returns-then-x-lt10 : goal.returns-then-x-lt10
-returns-then-x-lt10 c = (sym (ap length (decimal_digit _ c.if-x-lt10.true)), omega arith, omega arith)
+pub returns-in-0-to-9 : goal.returns-in-0-to-9
+returns-in-0-to-9 c = (omega (arith, ap length (decimal_digit c.args.x (omega arith))), omega arith, omega arith)
 
-pub returns-then-x-lt100 : goal.returns-then-x-lt100
-returns-then-x-lt100 c = (sym (decimal_size 1 _ c.if-x-lt10.false c.if-x-lt100.true), omega arith, omega arith)
+pub returns-in-10-to-99 : goal.returns-in-10-to-99
+returns-in-10-to-99 c = (omega (arith, decimal_size 1 c.args.x (omega arith) (omega arith)), omega arith, omega arith)
 
-pub returns-then-x-lt1000 : goal.returns-then-x-lt1000
-returns-then-x-lt1000 c = (sym (decimal_size 2 _ c.if-x-lt100.false c.if-x-lt1000.true), omega arith, omega arith)
+pub returns-in-100-to-999 : goal.returns-in-100-to-999
+returns-in-100-to-999 c = (omega (arith, decimal_size 2 c.args.x (omega arith) (omega arith)), omega arith, omega arith)
 
-pub returns-then-x-lt10000 : goal.returns-then-x-lt10000
-returns-then-x-lt10000 c = (sym (decimal_size 3 _ c.if-x-lt1000.false c.if-x-lt10000.true), omega arith, omega arith)
+pub returns-in-1000-to-9999 : goal.returns-in-1000-to-9999
+returns-in-1000-to-9999 c = (omega (arith, decimal_size 3 c.args.x (omega arith) (omega arith)), omega arith, omega arith)
 
-pub returns-then-x-lt100000 : goal.returns-then-x-lt100000
-returns-then-x-lt100000 c = (sym (decimal_size 4 _ c.if-x-lt10000.false c.if-x-lt100000.true), omega arith, omega arith)
+pub returns-in-10000-to-99999 : goal.returns-in-10000-to-99999
+returns-in-10000-to-99999 c = (omega (arith, decimal_size 4 c.args.x (omega arith) (omega arith)), omega arith, omega arith)
 
-pub returns-then-x-lt1000000 : goal.returns-then-x-lt1000000
-returns-then-x-lt1000000 c = (sym (decimal_size 5 _ c.if-x-lt100000.false c.if-x-lt1000000.true), omega arith, omega arith)
+pub returns-in-100000-to-999999 : goal.returns-in-100000-to-999999
+returns-in-100000-to-999999 c = (omega (arith, decimal_size 5 c.args.x (omega arith) (omega arith)), omega arith, omega arith)
 
-pub returns-then-x-lt10000000 : goal.returns-then-x-lt10000000
-returns-then-x-lt10000000 c = (sym (decimal_size 6 _ c.if-x-lt1000000.false c.if-x-lt10000000.true), omega arith, omega arith)
+pub returns-in-1000000-to-9999999 : goal.returns-in-1000000-to-9999999
+returns-in-1000000-to-9999999 c = (omega (arith, decimal_size 6 c.args.x (omega arith) (omega arith)), omega arith, omega arith)
 
-pub returns-then-x-lt100000000 : goal.returns-then-x-lt100000000
-returns-then-x-lt100000000 c = (sym (decimal_size 7 _ c.if-x-lt10000000.false c.if-x-lt100000000.true), omega arith, omega arith)
+pub returns-in-10000000-to-99999999 : goal.returns-in-10000000-to-99999999
+returns-in-10000000-to-99999999 c = (omega (arith, decimal_size 7 c.args.x (omega arith) (omega arith)), omega arith, omega arith)
 
-pub returns-then-x-lt1000000000 : goal.returns-then-x-lt1000000000
-returns-then-x-lt1000000000 c = (sym (decimal_size 8 _ c.if-x-lt100000000.false c.if-x-lt1000000000.true), omega arith, omega arith)
+pub returns-in-100000000-to-999999999 : goal.returns-in-100000000-to-999999999
+returns-in-100000000-to-999999999 c = (omega (arith, decimal_size 8 c.args.x (omega arith) (omega arith)), omega arith, omega arith)
 
-pub returns : goal.returns
-returns c =
-    let c_fits = c.ranges in
-    (sym (decimal_size 9 _ c.if-x-lt1000000000.false (omega (arith, c_fits))), omega arith, omega arith)
+pub returns-in_default : goal.returns-in_default
+returns-in_default c = (omega (arith, decimal_size 9 c.args.x (omega arith) (omega arith)), omega arith, omega arith)

@@ -1,9 +1,5 @@
 -- `next_field`: the digits at a place are that piece of the lent text. Assumes nothing.
-use mathlib.Core.Path.{◌≡◌, refl}
-use mathlib.Core.List.{List, [], ◌∷◌}
-use Prim.Native.Nat.{ℕ, ◌+◌, ◌-◌}
-use native.Mathlib.Omega.{arith}
-use lib.ListN.{length, take, drop}
+use Rattle.std.proofs.Common.{◌≡◌, refl, ℕ, ◌+◌, ◌-◌, List, [], ◌∷◌, length, take, drop, arith}
 use native.Mathlib.Nat.{add-sub_cancel_left}
 use Rattle.terms.specs.Texts.{digits}
 use Rattle.text.proofs.Places.{digits_within, digits_part}
@@ -17,17 +13,10 @@ whole : (s : List ℕ) (at end : ℕ) → end ≡ at + length (digits (drop at s
 whole s at end q = rw (q, add-sub_cancel_left) (digits_part (drop at s))
 
 pub returns-then-end-at : goal.returns-then-end-at
-returns-then-end-at c =
-    let c_args = c.args in
-    none (digits (drop c_args.at c_args.text.now)) (omega arith)
+returns-then-end-at c = none (digits (drop c.args.at c.args.text.now)) (omega arith)
 
-pub slice_bounds-result-end-2 : goal.slice_bounds-result-end-2
-slice_bounds-result-end-2 c =
-    let c_args = c.args in
-    omega (arith, digits_within c_args.text.now c_args.at _ refl (omega arith))
+pub slice_bounds-result-end-else-end-at : goal.slice_bounds-result-end-else-end-at
+slice_bounds-result-end-else-end-at c = omega (arith, digits_within c.args.text.now c.args.at _ refl (omega arith))
 
-pub returns : goal.returns
-returns c =
-    let c_args = c.args in
-    let c_digits_end = c.digits_end-end in
-    whole c_args.text.now c_args.at c_digits_end.result c_digits_end.ensures
+pub returns-else-end-at : goal.returns-else-end-at
+returns-else-end-at c = whole c.args.text.now c.args.at c.digits_end-end.result c.digits_end-end.ensures

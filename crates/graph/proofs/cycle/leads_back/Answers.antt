@@ -7,11 +7,11 @@ use Rattle.graph.proofs.cycle.leads_back.Goals.{After-source-from, then-not-met-
 use Rattle.graph.proofs.cycle.leads_back.Goals as goal
 
 -- at an arrow from p
-at_arrow : (c : After-source-from) → Looks c.args.n c.args.arrows.now (turn c.args.root.0 c.loop-c.queue c.loop-from.done) c.loop-c.c c.source-from.result.0
+at_arrow : (c : After-source-from) → Looks c.args.graph.now.n c.args.graph.now.arrows.now (turn c.args.root.0 c.loop-c.queue c.loop-from.done) c.loop-c.c c.source-from.result.0
 at_arrow c = looks c.loop-c.invariant.tidy c.loop-c.invariant.along c.loop-c-test.true c.source-from.ensures.0
 
 pub loop-from-init : goal.loop-from-init
-loop-from-init c = (search_start c.requires.tidy.0 c.requires.tidy.1 c.requires.linked (length-replicate {A = ℕ} 256 0), omega (arith, c.requires.tidy.0.subtasks, c.requires.tidy.1.high))
+loop-from-init c = (search_start c.args.graph.now.tidy c.requires c.args.graph.now.linked (length-replicate {A = ℕ} 256 0), omega (arith, c.args.graph.now.tidy.subtasks, c.requires.high))
 
 pub begin-c-requires : goal.begin-c-requires
 begin-c-requires c = c.loop-from.invariant.1

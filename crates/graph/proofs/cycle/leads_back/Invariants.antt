@@ -6,15 +6,15 @@ use Rattle.graph.proofs.cycle.leads_back.Given as goal
 -- v has its turn
 abbrev pub invariant-loop-from : goal.invariant-loop-from
 invariant-loop-from l =
-    Search l.initial.n l.initial.arrows l.initial.root.0 l.initial.links.first l.initial.links.next (unmet_of l.met) l.queue l.queued l.done (get_or l.initial.links.first l.v 0)
+    Search l.initial.graph.n l.initial.graph.arrows.now l.initial.root.0 l.initial.graph.links.now.first l.initial.graph.links.now.next (unmet_of l.met) l.queue l.queued l.done (get_or l.initial.graph.links.now.first l.v 0)
     × (l.v < 257)
 
 abbrev pub decreases-loop-from : goal.decreases-loop-from
-decreases-loop-from l = l.initial.n - l.done
+decreases-loop-from l = l.initial.graph.n - l.done
 
 abbrev pub invariant-loop-c : goal.invariant-loop-c
 invariant-loop-c l =
-    Search l.initial.n l.initial.arrows l.initial.root.0 l.initial.links.first l.initial.links.next (unmet_of l.met) l.queue l.queued l.done l.c
+    Search l.initial.graph.n l.initial.graph.arrows.now l.initial.root.0 l.initial.graph.links.now.first l.initial.graph.links.now.next (unmet_of l.met) l.queue l.queued l.done l.c
 
 abbrev pub decreases-loop-c : goal.decreases-loop-c
 decreases-loop-c l = l.c

@@ -6,11 +6,11 @@ use Rattle.graph.proofs.weigh.latest.Goals.{After-source-from}
 use Rattle.graph.proofs.weigh.latest.Goals as goal
 
 -- at the arrow at the cursor, which comes from p
-at_arrow : (c : After-source-from) → Looks c.args.n c.args.arrows.now c.args.v.0 c.loop-c.c c.source-from.result.0
-at_arrow c = looks c.requires.tidy.0 c.loop-c.invariant.along c.loop-c-test.true c.source-from.ensures.0
+at_arrow : (c : After-source-from) → Looks c.args.graph.now.n c.args.graph.now.arrows.now c.args.v.0 c.loop-c.c c.source-from.result.0
+at_arrow c = looks c.args.graph.now.tidy c.loop-c.invariant.along c.loop-c-test.true c.source-from.ensures.0
 
 pub loop-c-init : goal.loop-c-init
-loop-c-init c = rw c.begin-c.ensures (looked_start c.requires.tidy.0 c.requires.linked _ c.requires.tidy.1)
+loop-c-init c = rw c.begin-c.ensures (looked_start c.args.graph.now.tidy c.args.graph.now.linked _ c.requires)
 
 pub returns : goal.returns
 returns c = rw c.loop-c-test.false at c.loop-c.invariant.latest

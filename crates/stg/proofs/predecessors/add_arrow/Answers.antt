@@ -1,19 +1,14 @@
 -- `add_arrow`: one predecessor more, stored where there is room and counted in any case. Assumes nothing.
-use native.Mathlib.Omega.{arith}
+use Rattle.std.proofs.Common.{refl, arith}
 use Rattle.stg.proofs.AddedArrows.{added_zero, added_out, added_in}
 use Rattle.stg.proofs.predecessors.add_arrow.Goals as goal
+use Rattle.stg.proofs.predecessors.add_arrow.Goals.{then-a-arrows, else-a-arrows}
 
 pub returns-then-from-eq0 : goal.returns-then-from-eq0
-returns-then-from-eq0 c = added_zero _ _ _ _ c.if-from-eq0.true
-
-pub returns-then-arrows-a : goal.returns-then-arrows-a
-returns-then-arrows-a c = added_out _ _ _ _ c.if-from-eq0.false c.if-arrows-a.true
-
-pub clip-requires : goal.clip-requires
-clip-requires c = tt
-
-pub narrow-requires : goal.narrow-requires
-narrow-requires c = omega arith
+returns-then-from-eq0 c = added_zero _ _ _ _ (omega arith)
 
 pub returns : goal.returns
-returns c = added_in _ _ _ _ c.if-from-eq0.false _ _ c.clip.ensures c.narrow.ensures
+returns c = elim c.if-a-arrows.branch [
+  | then-a-arrows w ↦ rw w.arrows-is (added_in _ _ _ _ (λ e. omega arith) _ _ w.clip.ensures refl)
+  | else-a-arrows w ↦ rw w.arrows-is (added_out _ _ _ _ (λ e. omega arith) w.if-a-arrows.false)
+]

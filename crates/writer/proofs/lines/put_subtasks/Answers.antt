@@ -1,5 +1,5 @@
 -- `put_subtasks`: the lines of the subtasks, one by one: whoever puts those that remain has put all. Assumes nothing.
-use native.Mathlib.Omega.{arith}
+use Rattle.std.proofs.Common.{arith}
 use Rattle.writer.proofs.TableRows.{row_at}
 use Rattle.writer.proofs.SubtaskTexts.{lines_all, line_room, lines_next, lines_end}
 use Rattle.writer.proofs.lines.put_subtasks.Goals as goal
@@ -20,17 +20,13 @@ pub put_subtask-k-requires : goal.put_subtask-k-requires
 put_subtask-k-requires c = (
   omega (arith, c.row_of-row.ensures.1, c.requires.0.few),
   line_room _ _ _ c.loop-i.invariant
-      (record { below = c.loop-i-test.true; time_is = c.u32_from_u16.ensures.0; row_is = c.row_of-row.ensures.0 }),
+      (record { below = c.loop-i-test.true; time_is = c.from.ensures; row_is = c.row_of-row.ensures.0 }),
 )
-
-pub loop-i-smaller : goal.loop-i-smaller
-loop-i-smaller c =
-    omega (arith, c.loop-i-test.true)
 
 pub loop-i-preserved : goal.loop-i-preserved
 loop-i-preserved c =
     lines_next _ _ _ c.loop-i.invariant
-    (record { below = c.loop-i-test.true; time_is = c.u32_from_u16.ensures.0; row_is = c.row_of-row.ensures.0 })
+    (record { below = c.loop-i-test.true; time_is = c.from.ensures; row_is = c.row_of-row.ensures.0 })
     c.put_subtask-k.ensures
 
 pub shape_of-text : goal.shape_of-text

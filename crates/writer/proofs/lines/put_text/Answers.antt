@@ -1,14 +1,10 @@
 -- `put_text`: the parts of the text, one behind the other. Assumes nothing.
-use native.Mathlib.Omega.{arith}
+use Rattle.std.proofs.Common.{arith}
 use Rattle.writer.proofs.WholeTexts.{entry_room, subtasks_room, exit_room, text_stands}
 use Rattle.writer.proofs.lines.put_text.Goals as goal
 
 pub overflow_cast-n : goal.overflow_cast-n
 overflow_cast-n c =
-    omega (arith, c.requires.0.count)
-
-pub overflow_add-exit : goal.overflow_add-exit
-overflow_add-exit c =
     omega (arith, c.requires.0.count)
 
 pub put_line-c-requires : goal.put_line-c-requires

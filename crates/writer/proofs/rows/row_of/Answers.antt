@@ -4,16 +4,16 @@ use Rattle.writer.proofs.rows.row_of.Goals as goal
 
 pub slice_bounds-result-count : goal.slice_bounds-result-count
 slice_bounds-result-count c =
-    row_rises c.requires _ _ c.usize_from_u16-from.ensures.0 c.usize_from_u16-to.ensures.0
+    row_rises c.requires _ _ c.from-from.ensures c.from-to.ensures
 
 pub slice_bounds-result-start : goal.slice_bounds-result-start
 slice_bounds-result-start c =
-    row_rises c.requires _ _ c.usize_from_u16-from.ensures.0 c.usize_from_u16-to.ensures.0
+    row_rises c.requires _ _ c.from-from.ensures c.from-to.ensures
 
 pub slice_bounds-result-end : goal.slice_bounds-result-end
 slice_bounds-result-end c =
-    row_inside c.requires _ _ c.usize_from_u16-from.ensures.0 c.usize_from_u16-to.ensures.0
+    row_inside c.requires _ _ c.from-from.ensures c.from-to.ensures
 
 pub returns : goal.returns
 returns c =
-    row_part c.requires _ _ c.usize_from_u16-from.ensures.0 c.usize_from_u16-to.ensures.0
+    row_part c.requires _ _ c.from-from.ensures c.from-to.ensures

@@ -1,5 +1,5 @@
 -- `subtasks_size`: the lines of the subtasks, one by one: what is counted and what remains make up all. Assumes nothing.
-use native.Mathlib.Omega.{arith}
+use Rattle.std.proofs.Common.{arith}
 use Rattle.writer.proofs.TableRows.{row_at}
 use Rattle.writer.proofs.SubtaskTexts.{counted_none, counted_next, counted_all}
 use Rattle.writer.proofs.sizes.subtasks_size.Goals as goal
@@ -23,14 +23,10 @@ pub overflow_add-size : goal.overflow_add-size
 overflow_add-size c =
     omega (arith, c.loop-i.invariant.most, c.loop-i.invariant.inside, c.requires.count, c.subtask_size-size.ensures.1)
 
-pub loop-i-smaller : goal.loop-i-smaller
-loop-i-smaller c =
-    omega (arith, c.loop-i-test.true)
-
 pub loop-i-preserved : goal.loop-i-preserved
 loop-i-preserved c =
     counted_next _ _ _ _ c.loop-i.invariant
-    (record { below = c.loop-i-test.true; time_is = c.u32_from_u16.ensures.0; row_is = c.row_of-row.ensures.0 })
+    (record { below = c.loop-i-test.true; time_is = c.from.ensures; row_is = c.row_of-row.ensures.0 })
     c.subtask_size-size.ensures
 
 pub returns : goal.returns
