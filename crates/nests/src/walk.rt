@@ -1,5 +1,5 @@
 // The walk over a nest's row: an opener is gone over member by member, and so is each member that is an opener of the other kind.
-ghost use Rattle.std.specs.Prelude.{◌≡◌, ◌≤◌, ◌<◌, length};
+ghost use Rattle.std.specs.Prelude.{◌≡◌, ◌+◌, ◌≤◌, ◌<◌, length};
 ghost use Rattle.terms.specs.Nests.{kind_of, together};
 ghost use Rattle.nests.specs.Walks.{way_of, other_kind, CountsAt, GraphAt, OpenerAt};
 
@@ -9,6 +9,20 @@ pub struct Walk {
     pub next: usize,
     pub c: u32,
     pub p: u32,
+}
+
+impl Walk {
+    // And over one more member of an opener of this kind.
+    fn then(self, kind: Kind, member: Walk) -> Walk
+        requires { (self.c + member.c < 4294967296) × (together (way_of kind) self.p member.p < 4294967296) }
+        ensures { result ≡ record { next = member.next; c = self.c + member.c; p = together (way_of kind) self.p member.p } }
+    {
+        Walk {
+            next: member.next,
+            c: self.c + member.c,
+            p: kind.together(self.p, member.p),
+        }
+    }
 }
 
 // A sequence has its members end to end, a group side by side.
@@ -82,17 +96,16 @@ pub fn opener_at(row: &[[u32; 3]], at: usize, kind: Kind, depth: usize) -> Optio
 {
     let members = members_at(row, at, kind)?;
     let deeper = depth.checked_sub(1)?;
-    let mut next = at + 1;
-    let mut c: u32 = 0;
-    let mut p: u32 = 0;
+    let mut walk = Walk {
+        next: at + 1,
+        c: 0,
+        p: 0,
+    };
     for _ in 0..members {
-        let member = match graph_at(row, next) {
-            Some(graph) => graph,
-            None => opener_at(row, next, kind.other(), deeper)?,
+        walk = match graph_at(row, walk.next) {
+            Some(graph) => walk.then(kind, graph),
+            None => walk.then(kind, opener_at(row, walk.next, kind.other(), deeper)?),
         };
-        next = member.next;
-        c += member.c;
-        p = kind.together(p, member.p);
     }
-    Some(Walk { next, c, p })
+    Some(walk)
 }

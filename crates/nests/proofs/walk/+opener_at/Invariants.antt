@@ -7,4 +7,4 @@ abbrev pub decreases-opener_at : goal.decreases-opener_at
 decreases-opener_at l = l.depth
 
 abbrev pub invariant-loop : goal.invariant-loop
-invariant-loop l = Passes (way_of l.initial.kind) l.initial.deeper l.initial.row l.initial.at l.counter l.next l.c l.p
+invariant-loop l = Passes (way_of l.initial.kind) l.initial.deeper l.initial.row l.initial.at l.counter l.walk.next l.walk.c l.walk.p
