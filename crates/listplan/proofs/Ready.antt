@@ -2,6 +2,7 @@
 use mathlib.Core.Path.{◌≡◌, refl}
 use mathlib.Core.Logic.{◌⊎◌, inl, inr, by_cases}
 use mathlib.Core.List.{List}
+use mathlib.Core.Bool.{Bool}
 use Rattle.std.specs.Prelude.{None}
 use Prim.Native.Nat.{ℕ, ◌≤◌, ◌<◌}
 use native.Mathlib.Omega.{arith}
@@ -20,7 +21,7 @@ ended_placed : (P : List Entry) (W : List ℕ) (j : ℕ) → ¬ Unended P W j �
 ended_placed P W j h = by_cases (dec_le 1 (processor_of P j)) (λ l. l) (λ l. absurd (h (waits (omega arith))))
 
 module _ {times : List ℕ} {arrows : List (List ℕ)} {order : List ℕ} {M : ℕ} {first next rank : List ℕ} (job : Job times arrows order M first next rank)
-    {t c : ℕ} {L R U W : List ℕ} {P : List Entry} (mk : Making times arrows order M t c L R U W P) where
+    {t c : ℕ} {L : List ℕ} {R : List Bool} {U W : List ℕ} {P : List Entry} (mk : Making times arrows order M t c L R U W P) where
   pub so_far : SoFar times arrows M t P
   so_far = by_rule times arrows M job.graph order job.is_order mk.made
 

@@ -5,7 +5,7 @@ ghost use Rattle.forms.specs.Forms.{never};
 ghost use Rattle.terms.specs.ListRule.{put};
 ghost use Rattle.listplan.specs.Making.{CountedOff};
 
-use crate::tables::mark;
+use crate::marks::Marks;
 use forms::NEVER;
 use inputs::{time_of, to_at};
 use terms::{Entry, Processor, Subtask};
@@ -15,25 +15,22 @@ pub fn count_off(
     arrows: &[[u16; 2]],
     rank: &[u16; 257],
     left: &mut [u16; 257],
-    ready: &mut [u8; 256],
-    groups: &mut [u8; 16],
+    marks: &mut Marks,
     place: usize,
     low: usize,
 ) -> usize
     requires place_bound { to_of arrows.now place < 257 }
-    requires rank_len { (length rank.now ≡ 257) × (length left.old ≡ 257) × (length ready.old ≡ 256) × (length groups.old ≡ 16) }
+    requires rank_len { (length rank.now ≡ 257) × (length left.old ≡ 257) }
     requires bound { (1 ≤ get_or left.old (to_of arrows.now place) 0) × (get_or rank.now (to_of arrows.now place) 0 < 256) }
-    ensures { CountedOff arrows.now rank.now left.old ready.old groups.old
-        left.new ready.new groups.new place low result }
+    ensures { CountedOff arrows.now rank.now left.old marks.old left.new marks.new place low result }
 {
     let j = to_at(arrows, place).0;
-    let rest = left[j] - 1;
-    left[j] = rest;
-    if rest != 0 {
+    left[j] -= 1;
+    if left[j] != 0 {
         return low;
     }
     let x = usize::from(rank[j]);
-    mark(ready, groups, x, rest);
+    marks.mark(x);
     low.min(x)
 }
 

@@ -2,6 +2,7 @@
 #![tactic(auto)]
 
 mod events;
+mod marks;
 mod order;
 mod rule;
 mod scan;

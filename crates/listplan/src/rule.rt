@@ -5,11 +5,11 @@ ghost use Rattle.terms.specs.Paths.{total_work};
 ghost use Rattle.terms.specs.ListRule.{IsOrder, IsListPlan};
 ghost use Rattle.theory.specs.Sound.{SoundGraph};
 ghost use Rattle.forms.specs.Forms.{never};
-ghost use Rattle.listplan.specs.Tables.{Grouped};
 ghost use Rattle.listplan.specs.Making.{Job, Making};
 
 use crate::events::{count_off, end_on, start_on};
-use crate::scan::{first_due, first_to_end, next_start, unmark};
+use crate::marks::Marks;
+use crate::scan::{first_due, first_to_end, next_start};
 use crate::tables::{chain_arrows, rank_subtasks};
 use forms::{NEVER, NOT_PLACED};
 use inputs::subtask_at;
@@ -27,13 +27,11 @@ fn follow_rule(
     next: &[u16; 2048],
     rank: &[u16; 257],
     left: &mut [u16; 257],
-    ready: &mut [u8; 256],
-    groups: &mut [u8; 16],
+    marks: &mut Marks,
     plan: &mut [Entry],
 )
     requires job { Job times.now arrows.now order.now m first.now next.now rank.now }
-    requires making { Making times.now arrows.now order.now m 0 0 left.old ready.old (replicate 17 never) (replicate 17 0) plan.old }
-    requires grouped { Grouped ready.old groups.old }
+    requires making { Making times.now arrows.now order.now m 0 0 left.old marks.old (replicate 17 never) (replicate 17 0) plan.old }
     ensures list_plan { IsListPlan times.now arrows.now order.now m plan.new }
     ensures whole { length plan.new ≡ length times.now }
 {
@@ -46,7 +44,7 @@ fn follow_rule(
     let mut low: usize = 0;
     loop {
         if c != 0 {
-            low = count_off(arrows, rank, left, ready, groups, c - 1, low);
+            low = count_off(arrows, rank, left, marks, c - 1, low);
             c = usize::from(next[c - 1]);
             continue;
         }
@@ -56,7 +54,7 @@ fn follow_rule(
             free = Processor(1);
             continue;
         }
-        if let Some(start) = next_start(ready, groups, low, order.len(), &who, m, free) {
+        if let Some(start) = next_start(marks, low, order.len(), &who, m, free) {
             let subtask = subtask_at(order, start.place);
             start_on(
                 times,
@@ -67,7 +65,7 @@ fn follow_rule(
                 start.processor,
                 t,
             );
-            unmark(ready, groups, start.place);
+            marks.unmark(start.place);
             free = start.processor;
             low = start.place + 1;
             continue;
@@ -93,22 +91,11 @@ pub fn make_plan(times: &[u16], arrows: &[[u16; 2]], m: usize, order: &[u16], pl
     let mut next = [0u16; 2048];
     let mut left = [0u16; 257];
     let mut rank = [0u16; 257];
-    let mut ready = [0u8; 256];
-    let mut groups = [0u8; 16];
+    let mut marks = Marks::none();
     chain_arrows(arrows, &mut first, &mut next, &mut left);
-    rank_subtasks(order, &left, &mut rank, &mut ready, &mut groups);
+    rank_subtasks(order, &left, &mut rank, &mut marks);
     plan.fill(NOT_PLACED);
     follow_rule(
-        times,
-        arrows,
-        m,
-        order,
-        &first,
-        &next,
-        &rank,
-        &mut left,
-        &mut ready,
-        &mut groups,
-        plan,
+        times, arrows, m, order, &first, &next, &rank, &mut left, &mut marks, plan,
     );
 }

@@ -8,7 +8,7 @@ use Rattle.listplan.proofs.Steps.{step_counted, step_ended, step_started, step_m
 use Rattle.listplan.proofs.rule.follow_rule.Goals as goal
 
 pub loop-c-init : goal.loop-c-init
-loop-c-init c = begins c.requires.job c.requires.making c.requires.grouped
+loop-c-init c = begins c.requires.job c.requires.making
 
 pub count_off-low-requires-clause-bound : goal.count_off-low-requires-clause-bound
 count_off-low-requires-clause-bound c =
@@ -63,9 +63,7 @@ pub unmark-requires : goal.unmark-requires
 unfolding NextStart
 unmark-requires c =
     let start = rw c.in-Some-next_start.is at c.next_start.ensures in
-    let now = c.loop-c.invariant in
-    let fits = starter_fits c.requires.job now c.if-c-ne0.false c.in_default.is _ _ start.0 start.1 in
-    (fits.1, now.making.marks.long, now.grouped, fits.2)
+    let fits = starter_fits c.requires.job c.loop-c.invariant c.if-c-ne0.false c.in_default.is _ _ start.0 start.1 in (fits.1, fits.2)
 
 pub overflow_add-low : goal.overflow_add-low
 unfolding NextStart
