@@ -154,12 +154,15 @@ module _ {times : List ℕ} {arrows : List (List ℕ)} {order : List ℕ} {M : �
           let l : x < 256 = omega (arith, inside, job.is_order.whole, job.graph.count.high) in
           (omega (arith, pm.high, job.within.high), l, record { within = omega arith; none = first_mark.before.none })
 
+      pub starter : {j : ℕ} → j ≡ get_or order x 0 → IsSubtask times j
+      starter e = rw e (job.is_order.each x inside)
+
       pub step_started : {j : ℕ} {R' : List Bool} {P' : List Entry} {U' W' : List ℕ} → j ≡ get_or order x 0 → R' ≡ set R x false
           → P' ≡ put P j p.0 t → (U' ≡ set U p.0 (t + time_of times j)) × (W' ≡ set W p.0 j)
           → Following times arrows order M t c L R' U' W' P' due p.0 (x + 1) × (to_do times t L W' P' < to_do times t L W P)
       unfolding to_do
       step_started {j} e unmarked put_there (until, who) =
-          let s : IsSubtask times j = rw e (job.is_order.each x inside) in
+          let s : IsSubtask times j = starter e in
           let o = opened job mk₀ later first_mark first_free inside pm e in
           let f = nobody job mk₀ later first_mark first_free inside pm e in
           let np = unplaced_put P j p.0 t (record { low = s.low; high = omega (arith, s.high, mk₀.whole) }) o.unplaced pm.low in

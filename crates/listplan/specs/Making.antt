@@ -14,7 +14,7 @@ use Rattle.theory.specs.Counting.{Count}
 use Rattle.forms.specs.Forms.{never}
 use Rattle.graph.specs.Chains.{Chains}
 use Rattle.listplan.specs.Tables.{Ranks}
-use Rattle.listplan.specs.declared.scan.Start.{Start}
+use Rattle.listplan.specs.declared.starts.Start.{Start}
 
 -- what stays the same
 pub record Job (times : List ℕ) (arrows : List (List ℕ)) (order : List ℕ) (M : ℕ) (first next rank : List ℕ) : Type 0 where

@@ -7,12 +7,13 @@ ghost use Rattle.theory.specs.Sound.{SoundGraph};
 ghost use Rattle.forms.specs.Forms.{never};
 ghost use Rattle.listplan.specs.Making.{Job, Making};
 
-use crate::events::{count_off, end_on, start_on};
+use crate::events::count_off;
+use crate::holders::Holders;
 use crate::marks::Marks;
-use crate::scan::{first_due, first_to_end, next_start};
+use crate::starts::next_start;
 use crate::tables::{chain_arrows, rank_subtasks};
 use forms::{NEVER, NOT_PLACED};
-use inputs::subtask_at;
+use inputs::{subtask_at, time_of};
 use terms::{Entry, Processor};
 
 // Makes the list plan. At t each subtask that ends (`due` is the first processor with one) leaves its processor, and its arrows are counted
@@ -35,8 +36,7 @@ fn follow_rule(
     ensures list_plan { IsListPlan times.now arrows.now order.now m plan.new }
     ensures whole { length plan.new ≡ length times.now }
 {
-    let mut until = [NEVER; 17];
-    let mut who = [0u16; 17];
+    let mut holders = Holders::none();
     let mut t: u32 = 0;
     let mut c: usize = 0;
     let mut due: Option<Processor> = None;
@@ -49,30 +49,26 @@ fn follow_rule(
             continue;
         }
         if let Some(processor) = due {
-            c = end_on(first, &mut until, &mut who, processor);
-            due = first_due(&until, m, t, usize::from(processor.0) + 1);
+            c = usize::from(first[holders.leave(processor).0]);
+            due = holders.first_due(m, t, usize::from(processor.0) + 1);
             free = Processor(1);
             continue;
         }
-        if let Some(start) = next_start(marks, low, order.len(), &who, m, free) {
+        if let Some(start) = next_start(marks, low, order.len(), &holders, m, free) {
             let subtask = subtask_at(order, start.place);
-            start_on(
-                times,
-                plan,
-                &mut until,
-                &mut who,
-                subtask,
-                start.processor,
-                t,
-            );
+            plan[subtask.0 - 1] = Entry {
+                processor: start.processor,
+                start: t,
+            };
+            holders.enter(subtask, start.processor, t + time_of(times, subtask));
             marks.unmark(start.place);
             free = start.processor;
             low = start.place + 1;
             continue;
         }
-        let soonest = first_to_end(&until, m);
+        let soonest = holders.soonest(m);
         due = Some(soonest);
-        t = until[usize::from(soonest.0)];
+        t = holders.until[usize::from(soonest.0)];
         if t == NEVER {
             return;
         }
