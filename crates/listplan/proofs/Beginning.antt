@@ -17,7 +17,7 @@ use Rattle.theory.proofs.Stores.{read_noughts}
 use Rattle.theory.proofs.Counting.{count_same, count_none, count_some}
 use Rattle.forms.specs.Forms.{never}
 use Rattle.listplan.specs.Tables.{Roomy, ArrowsTo, Distinct, Sources}
-use Rattle.listplan.specs.Making.{Job, waits, Holding, unended, Making, FirstOf}
+use Rattle.listplan.specs.Making.{IsJob, waits, Holding, unended, Making, FirstOf}
 use Rattle.listplan.proofs.Following.{Following}
 use Rattle.listplan.proofs.Scans.{none_yet, none_free}
 
@@ -41,7 +41,7 @@ all_blank zero i = refl
 all_blank (suc n) zero = refl
 all_blank (suc n) (suc i) = all_blank n i
 
-module _ {times : List ℕ} {arrows : List (List ℕ)} {order : List ℕ} {M : ℕ} {first next rank : List ℕ} (job : Job times arrows order M first next rank) where
+module _ {times : List ℕ} {arrows : List (List ℕ)} {order : List ℕ} {M : ℕ} {first next rank : List ℕ} (job : IsJob times arrows order M first next rank) where
   pub nothing_placed : {L : List ℕ} {R : List Bool} {P : List Entry} → ArrowsTo arrows L (length arrows) → Sources order L R (length order)
       → P ≡ replicate (length times) not_placed → Making times arrows order M 0 0 L R (replicate 17 never) (replicate 17 0) P
   unfolding processor_of start_of

@@ -15,11 +15,11 @@ use Rattle.theory.proofs.Stores.{read_set}
 use Rattle.theory.proofs.Counting.{count_same, count_less, count_none, count_some}
 use Rattle.theory.proofs.ListExists.{holds}
 use Rattle.graph.specs.Chains.{Last}
-use Rattle.listplan.specs.Making.{Job, Holding, unended, uncounted, Open, Lefts, Marks, Making, IsMarked, CountedOff}
+use Rattle.listplan.specs.Making.{IsJob, Holding, unended, uncounted, Open, Lefts, Marks, Making, IsMarked, CountedOff}
 use Rattle.listplan.proofs.Bits.{read_bit}
 use Rattle.listplan.proofs.Scans.{marked_low}
 
-module _ {times : List ℕ} {arrows : List (List ℕ)} {order : List ℕ} {M : ℕ} {first next rank : List ℕ} (job : Job times arrows order M first next rank)
+module _ {times : List ℕ} {arrows : List (List ℕ)} {order : List ℕ} {M : ℕ} {first next rank : List ℕ} (job : IsJob times arrows order M first next rank)
     {t c : ℕ} {L : List ℕ} {R : List Bool} {U W : List ℕ} {P : List Entry} (mk : Making times arrows order M t c L R U W P) (some : c ≢ 0) where
   -- where the arrow goes to, and the place of that one in the order
   abbrev j : ℕ

@@ -17,12 +17,12 @@ use Rattle.theory.proofs.Stores.{read_set}
 use Rattle.theory.proofs.Counting.{count_same}
 use Rattle.forms.specs.Forms.{never}
 use Rattle.graph.specs.Chains.{Last}
-use Rattle.listplan.specs.Making.{Job, Unended, waits, runs, Holding, unended, uncounted, IsOn, Making, IsMarked, IsDue, FirstOf}
+use Rattle.listplan.specs.Making.{IsJob, Unended, waits, runs, Holding, unended, uncounted, IsOn, Making, IsMarked, IsDue, FirstOf}
 use Rattle.listplan.proofs.Following.{Following}
 use Rattle.listplan.proofs.Scans.{none_free}
 
 -- the one on processor p has its end by t
-module _ {times : List ℕ} {arrows : List (List ℕ)} {order : List ℕ} {M : ℕ} {first next rank : List ℕ} (job : Job times arrows order M first next rank)
+module _ {times : List ℕ} {arrows : List (List ℕ)} {order : List ℕ} {M : ℕ} {first next rank : List ℕ} (job : IsJob times arrows order M first next rank)
     {t : ℕ} {L : List ℕ} {R : List Bool} {U W : List ℕ} {P : List Entry} (mk : Making times arrows order M t 0 L R U W P) {p : ℕ} (pm : Among 1 M p) (due : get_or U p 0 ≤ t) where
   pub somebody : 1 ≤ get_or W p 0
   somebody = by_cases (dec_le 1 (get_or W p 0)) (λ l. l) (λ l. absurd (omega (arith, mk.holders.nobody p pm (omega arith), mk.early, job.work)))

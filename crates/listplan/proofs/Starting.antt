@@ -18,14 +18,14 @@ use Rattle.theory.proofs.Stores.{read_set}
 use Rattle.theory.proofs.Counting.{count_same}
 use Rattle.theory.proofs.Placing.{put_length, put_processor, put_start, keep_processor, keep_start}
 use Rattle.forms.specs.Forms.{never}
-use Rattle.listplan.specs.Making.{Job, Unended, waits, runs, Holding, unended, uncounted, Open, IsOn, Holders, Lefts, Marks, Making, IsMarked, IsFree, FirstOf}
+use Rattle.listplan.specs.Making.{IsJob, Unended, waits, runs, Holding, unended, uncounted, Open, IsOn, Holders, Lefts, Marks, Making, IsMarked, IsFree, FirstOf}
 use Rattle.listplan.proofs.Bits.{read_bit, none_true}
 use Rattle.listplan.proofs.Following.{Following}
 use Rattle.listplan.proofs.Scans.{unmarked_low}
 use Rattle.listplan.proofs.Ready.{open_ready, is_free, is_busy, ready_open}
 
 -- subtask j, at place x of the order, starts on processor p
-module _ {times : List ℕ} {arrows : List (List ℕ)} {order : List ℕ} {M : ℕ} {first next rank : List ℕ} (job : Job times arrows order M first next rank)
+module _ {times : List ℕ} {arrows : List (List ℕ)} {order : List ℕ} {M : ℕ} {first next rank : List ℕ} (job : IsJob times arrows order M first next rank)
     {t : ℕ} {L : List ℕ} {R : List Bool} {U W : List ℕ} {P : List Entry} (mk : Making times arrows order M t 0 L R U W P) (later : (p : ℕ) → Among 1 M p → t < get_or U p 0)
     {x p j : ℕ} (fm : FirstBelow (IsMarked R) (length order) x) (ff : FirstBelow (IsFree W) (M + 1) p) (inside : x < length order) (pm : Among 1 M p)
     (stands : j ≡ get_or order x 0) where

@@ -19,7 +19,7 @@ use Rattle.theory.specs.First.{NoneBelow, FirstBelow}
 use Rattle.theory.proofs.Counting.{noughts, noughts_most, noughts_filled, noughts_emptied}
 use Rattle.theory.proofs.Tallies.{tally, tally_set}
 use Rattle.forms.specs.Forms.{never}
-use Rattle.listplan.specs.Making.{Job, Making, IsMarked, IsFree, IsDue, FirstOf, FirstMark, Soonest, CountedOff}
+use Rattle.listplan.specs.Making.{IsJob, Making, IsMarked, IsFree, IsDue, FirstOf, FirstMark, Soonest, CountedOff}
 use Rattle.listplan.proofs.Following.{Following}
 use Rattle.listplan.proofs.Scans.{soonest_due}
 use Rattle.listplan.proofs.Ready.{still}
@@ -47,7 +47,7 @@ to_do times t L W P = (total_work times - t) + 2 * unplaced P + (17 - noughts W)
 -- ---- the ways round
 
 module _ {times : List ℕ} {arrows : List (List ℕ)} {order : List ℕ} {M : ℕ} {first next rank : List ℕ} {t c : ℕ} {L : List ℕ} {R : List Bool} {U W : List ℕ} {P : List Entry}
-    {due : Option Processor} {free low : ℕ} (job : Job times arrows order M first next rank)
+    {due : Option Processor} {free low : ℕ} (job : IsJob times arrows order M first next rank)
     (now : Following times arrows order M t c L R U W P due free low) where
   -- an arrow is counted off
   module _ (some : c ≢ 0) where

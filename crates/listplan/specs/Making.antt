@@ -17,7 +17,7 @@ use Rattle.listplan.specs.Tables.{Ranks}
 use Rattle.listplan.specs.declared.starts.Start.{Start}
 
 -- what stays the same
-pub record Job (times : List ℕ) (arrows : List (List ℕ)) (order : List ℕ) (M : ℕ) (first next rank : List ℕ) : Type 0 where
+pub record IsJob (times : List ℕ) (arrows : List (List ℕ)) (order : List ℕ) (M : ℕ) (first next rank : List ℕ) : Type 0 where
   pub graph : SoundGraph times arrows
   pub within : Among 1 16 M
   pub is_order : IsOrder times order
