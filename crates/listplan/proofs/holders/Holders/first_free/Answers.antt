@@ -2,12 +2,12 @@
 use Rattle.std.proofs.Common.{◌≡◌, ◌+◌, arith}
 use Rattle.listplan.specs.Making.{FirstOf}
 use Rattle.listplan.proofs.Scans.{found}
-use Rattle.listplan.proofs.scan.first_free.Goals as goal
+use Rattle.listplan.proofs.holders.Holders.first_free.Goals as goal
 
-pub returns-then-who-p-eq0 : goal.returns-then-who-p-eq0
+pub returns-then-self-p-eq0 : goal.returns-then-self-p-eq0
 unfolding FirstOf
-returns-then-who-p-eq0 c =
-    (record { low = c.loop-p.invariant.0; high = omega arith }, found c.loop-p.invariant.1 (record { one = c.loop-p.invariant.0; nobody = c.if-who-p-eq0.true }))
+returns-then-self-p-eq0 c =
+    (record { low = c.loop-p.invariant.0; high = omega arith }, found c.loop-p.invariant.1 (record { one = c.loop-p.invariant.0; nobody = c.if-self-p-eq0.true }))
 
 pub returns : goal.returns
 unfolding FirstOf

@@ -2,12 +2,12 @@
 use Rattle.std.proofs.Common.{◌≡◌, ◌+◌, arith}
 use Rattle.listplan.specs.Making.{FirstOf}
 use Rattle.listplan.proofs.Scans.{found}
-use Rattle.listplan.proofs.scan.first_due.Goals as goal
+use Rattle.listplan.proofs.holders.Holders.first_due.Goals as goal
 
-pub returns-then-until-p : goal.returns-then-until-p
+pub returns-then-self-p : goal.returns-then-self-p
 unfolding FirstOf
-returns-then-until-p c =
-    (record { low = c.loop-p.invariant.0; high = omega arith }, found c.loop-p.invariant.1 (record { one = c.loop-p.invariant.0; by = c.if-until-p.true }))
+returns-then-self-p c =
+    (record { low = c.loop-p.invariant.0; high = omega arith }, found c.loop-p.invariant.1 (record { one = c.loop-p.invariant.0; by = c.if-self-p.true }))
 
 pub returns : goal.returns
 unfolding FirstOf

@@ -1,7 +1,7 @@
 -- `next_start`: the first marked place with the first free processor. Assumes nothing.
 use Rattle.std.proofs.Common.{inl, inr}
 use Rattle.listplan.specs.Making.{NextStart}
-use Rattle.listplan.proofs.scan.next_start.Goals as goal
+use Rattle.listplan.proofs.starts.next_start.Goals as goal
 
 pub returns-in_err-processor : goal.returns-in_err-processor
 unfolding NextStart
