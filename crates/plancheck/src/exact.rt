@@ -51,15 +51,18 @@ pub fn first_sharing(times: &[u16], plan: &[Entry]) -> Option<Pair>
     None
 }
 
-// How many subtasks run at t.
-fn running(times: &[u16], plan: &[Entry], t: u32) -> usize
+// How many subtasks run at t. No test is left out, so that many are looked at together.
+fn running(times: &[u16], plan: &[Entry], t: u32) -> u32
+    requires { Timed times.now plan.now }
     ensures { result ≡ running_among t times.now plan.now }
 {
-    times
-        .iter()
-        .zip(plan)
-        .filter(|(time, entry)| entry.start <= t && t - entry.start < u32::from(**time))
-        .count()
+    let mut count: u32 = 0;
+    for (place, entry) in plan.iter().enumerate() {
+        let time = u32::from(times[place]);
+        let runs = (entry.start <= t) & (t.saturating_sub(entry.start) < time);
+        count += u32::from(runs);
+    }
+    count
 }
 
 // Whether a subtask is ready at t although a processor is free.
@@ -67,7 +70,7 @@ fn some_idles(times: &[u16], plan: &[Entry], ready: &[u32; 257], m: u32, t: u32)
     requires { Timed times.now plan.now × (length ready.now ≡ 257) }
     ensures { Says (SomeIdles times.now plan.now ready.now m t) result }
 {
-    if m as usize <= running(times, plan, t) {
+    if m <= running(times, plan, t) {
         return false;
     }
     for (place, entry) in plan.iter().enumerate() {
