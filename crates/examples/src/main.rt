@@ -3,77 +3,43 @@
 
 ghost use Rattle.std.specs.Prelude.{◌≡◌, length};
 
+use forms::blank;
 use graph::{longest_path, total_work};
-use listplan::draft_plan;
-use plancheck::check_table;
+use listplan::list_plan;
+use plancheck::check_plan;
 use std::io;
 use stg::read_stg;
-use terms::{Amount, Answer, Counts, Entry, Outcome, PlanEnd, Processor, Refusal, Verdict};
+use terms::{Answer, Entry, Processor, Refusal, Verdict};
 use text::next_field;
 use verdict::judge;
 
-fn print(rt: &impl Print, text: &[u8]) -> io::Result<()> {
-    rt.write_all(text)
-}
-
-fn print_number(rt: &impl Print, number: u32) -> io::Result<()> {
-    print!(rt; "{number}")
-}
-
 // The number, the place and the second number.
 fn print_refusal(rt: &impl Print, refusal: Refusal) -> io::Result<()> {
-    print(rt, b" refused,")?;
-    print_number(rt, refusal.number as u32)?;
-    print(rt, b",")?;
-    print_number(rt, refusal.place)?;
-    print(rt, b",")?;
-    print_number(rt, refusal.second)
+    let (number, place, second) = (refusal.number(), refusal.place(), refusal.second());
+    print!(rt; " refused,{number},{place},{second}")
 }
 
-fn print_amount(rt: &impl Print, reply: Amount) -> io::Result<()> {
+fn print_amount(rt: &impl Print, reply: Result<u32, Refusal>) -> io::Result<()> {
     match reply {
-        Amount::Is(value) => {
-            print(rt, b" ")?;
-            print_number(rt, value)
-        }
-        Amount::Refused(refusal) => print_refusal(rt, refusal),
+        Ok(value) => print!(rt; " {value}"),
+        Err(refusal) => print_refusal(rt, refusal),
     }
 }
 
-fn print_end(rt: &impl Print, reply: PlanEnd) -> io::Result<()> {
+fn print_end(rt: &impl Print, reply: Result<u32, Refusal>) -> io::Result<()> {
     match reply {
-        PlanEnd::Ends(end) => {
-            print(rt, b" ends,")?;
-            print_number(rt, end)
-        }
-        PlanEnd::Refused(refusal) => print_refusal(rt, refusal),
+        Ok(end) => print!(rt; " ends,{end}"),
+        Err(refusal) => print_refusal(rt, refusal),
     }
 }
 
-// Fits and the spare, or late and the shortfall.
-fn print_verdict(rt: &impl Print, verdict: Verdict) -> io::Result<()> {
-    match verdict {
-        Verdict::Fits(spare) => {
-            print(rt, b" fits,")?;
-            print_number(rt, spare)
-        }
-        Verdict::Late(shortfall) => {
-            print(rt, b" late,")?;
-            print_number(rt, shortfall)
-        }
-    }
-}
-
-// S, then the verdict.
+// S, then fits and the spare, or late and the shortfall.
 fn print_answer(rt: &impl Print, answer: Answer) -> io::Result<()> {
-    let outcome = answer.outcome;
-    match outcome {
-        Outcome::Refused(refusal) => print_refusal(rt, refusal),
-        Outcome::Judged(verdict) => {
-            print(rt, b" S,")?;
-            print_number(rt, answer.figures.s)?;
-            print_verdict(rt, verdict)
-        }
+    let s = answer.figures.s;
+    match answer.outcome {
+        Ok(Verdict::Fits(spare)) => print!(rt; " S,{s} fits,{spare}"),
+        Ok(Verdict::Late(shortfall)) => print!(rt; " S,{s} late,{shortfall}"),
+        Err(refusal) => print_refusal(rt, refusal),
     }
 }
 
@@ -104,9 +70,7 @@ fn listed(
     order: &[u16],
     room: usize,
 ) -> io::Result<()> {
-    let draft = draft_plan(times, arrows, m, order, room);
-    let reply = draft.reply;
-    print_end(rt, reply)
+    print_end(rt, list_plan(times, arrows, m, order, &mut blank()[..room.min(256)]))
 }
 
 // The check of a plan of two entries, and of one.
@@ -118,9 +82,7 @@ fn checked(
     first: Entry,
     second: Entry,
 ) -> io::Result<()> {
-    let mut table = [first; 256];
-    table[1] = second;
-    print_end(rt, check_table(times, arrows, m, table, 2))
+    print_end(rt, check_plan(times, arrows, m, &[first, second]))
 }
 
 fn checked_alone(
@@ -130,13 +92,13 @@ fn checked_alone(
     m: u32,
     entry: Entry,
 ) -> io::Result<()> {
-    print_end(rt, check_table(times, arrows, m, [entry; 256], 1))
+    print_end(rt, check_plan(times, arrows, m, &[entry]))
 }
 
 // Example 2: every time of G shorter by 1.
 fn shorter_g(rt: &impl Print, arrows: &[[u16; 2]], order: &[u16]) -> io::Result<()> {
     let times = [2u16, 1, 1, 1, 3, 3, 3, 3, 8];
-    print(rt, b"\n2:")?;
+    print!(rt; "\n2:")?;
     measured(rt, &times, arrows)?;
     judged(rt, &times, arrows, 3, 15)?;
     listed(rt, &times, arrows, 3, order, 9)
@@ -145,21 +107,21 @@ fn shorter_g(rt: &impl Print, arrows: &[[u16; 2]], order: &[u16]) -> io::Result<
 // Example 4: G with two arrows fewer.
 fn fewer_arrows(rt: &impl Print, times: &[u16], order: &[u16]) -> io::Result<()> {
     let arrows = [[1u16, 9], [4, 7], [4, 8]];
-    print(rt, b"\n4:")?;
+    print!(rt; "\n4:")?;
     listed(rt, times, &arrows, 3, order, 9)
 }
 
 // Examples 1 to 5, around G.
 fn around_g(rt: &impl Print, times: &[u16], arrows: &[[u16; 2]], order: &[u16]) -> io::Result<()> {
-    print(rt, b"1:")?;
+    print!(rt; "1:")?;
     measured(rt, times, arrows)?;
     listed(rt, times, arrows, 3, order, 9)?;
     shorter_g(rt, arrows, order)?;
-    print(rt, b"\n3:")?;
+    print!(rt; "\n3:")?;
     judged(rt, times, arrows, 4, 18)?;
     listed(rt, times, arrows, 4, order, 9)?;
     fewer_arrows(rt, times, order)?;
-    print(rt, b"\n5:")?;
+    print!(rt; "\n5:")?;
     judged(rt, times, arrows, 3, 20)?;
     judged(rt, times, arrows, 3, 19)?;
     judged(rt, times, arrows, 3, 18)
@@ -174,17 +136,17 @@ fn graph_g(rt: &impl Print) -> io::Result<()> {
 
 // Examples 6 and 7.
 fn small_verdicts(rt: &impl Print, fives: &[u16], none: &[[u16; 2]]) -> io::Result<()> {
-    print(rt, b"\n6:")?;
+    print!(rt; "\n6:")?;
     judged(rt, fives, none, 2, 8)?;
     judged(rt, fives, none, 2, 7)?;
     judged(rt, fives, none, 2, 6)?;
-    print(rt, b"\n7:")?;
+    print!(rt; "\n7:")?;
     judged(rt, &[1], none, 16, 1)
 }
 
 // Example 8.
 fn one_arrow(rt: &impl Print, pair: &[u16], arrow: &[[u16; 2]]) -> io::Result<()> {
-    print(rt, b"\n8:")?;
+    print!(rt; "\n8:")?;
     measured(rt, pair, arrow)?;
     judged(rt, pair, arrow, 2, 7)?;
     checked(rt, pair, arrow, 2, at(1, 0), at(1, 3))?;
@@ -193,9 +155,9 @@ fn one_arrow(rt: &impl Print, pair: &[u16], arrow: &[[u16; 2]]) -> io::Result<()
 
 // Examples 9 and 10.
 fn small_plans(rt: &impl Print, fives: &[u16], none: &[[u16; 2]]) -> io::Result<()> {
-    print(rt, b"\n9:")?;
+    print!(rt; "\n9:")?;
     checked_alone(rt, &[3], none, 1, at(1, 1))?;
-    print(rt, b"\n10:")?;
+    print!(rt; "\n10:")?;
     checked(rt, fives, none, 2, at(1, 0), at(1, 5))?;
     checked(rt, fives, none, 1, at(1, 0), at(1, 5))
 }
@@ -205,10 +167,8 @@ fn chain() -> [[u16; 2]; 255]
     ensures { length result ≡ 255 }
 {
     let mut arrows = [[0u16; 2]; 255];
-    let mut j: u16 = 0;
-    while j < 255 {
-        arrows[j as usize] = [j + 1, j + 2];
-        j += 1;
+    for j in 0..255u16 {
+        arrows[usize::from(j)] = [j + 1, j + 2];
     }
     arrows
 }
@@ -217,13 +177,13 @@ fn chain() -> [[u16; 2]; 255]
 fn longest_chain(rt: &impl Print) -> io::Result<()> {
     let times = [65535u16; 256];
     let arrows = chain();
-    print(rt, b"\n11:")?;
+    print!(rt; "\n11:")?;
     judged(rt, &times, &arrows, 16, 1000000)
 }
 
 // Example 12.
 fn refused_graphs(rt: &impl Print) -> io::Result<()> {
-    print(rt, b"\n12:")?;
+    print!(rt; "\n12:")?;
     print_amount(rt, longest_path(&[1, 1], &[[1, 2], [2, 1]]))?;
     let none = [0u16; 0];
     print_amount(rt, total_work(&none, &[[1, 2]]))?;
@@ -233,20 +193,20 @@ fn refused_graphs(rt: &impl Print) -> io::Result<()> {
 // Example 14.
 fn long_last(rt: &impl Print, none: &[[u16; 2]]) -> io::Result<()> {
     let times = [1u16, 1, 1, 1, 1, 1, 3, 1];
-    print(rt, b"\n14:")?;
+    print!(rt; "\n14:")?;
     judged(rt, &times, none, 3, 5)?;
     listed(rt, &times, none, 3, &[1, 2, 3, 4, 5, 6, 7, 8], 8)
 }
 
 // The refusals that neither the texts nor the examples meet: those of a question,
 fn refused_questions(rt: &impl Print, fives: &[u16], none: &[[u16; 2]]) -> io::Result<()> {
-    print(rt, b"\n8:")?;
+    print!(rt; "\n8:")?;
     judged(rt, fives, none, 17, 8)?;
-    print(rt, b"\n9:")?;
+    print!(rt; "\n9:")?;
     judged(rt, fives, none, 2, 0)?;
-    print(rt, b"\n10:")?;
+    print!(rt; "\n10:")?;
     listed(rt, fives, none, 2, &[1, 1], 2)?;
-    print(rt, b"\n11:")?;
+    print!(rt; "\n11:")?;
     listed(rt, fives, none, 2, &[1, 2], 1)
 }
 
@@ -255,29 +215,29 @@ fn refused_rows(rt: &impl Print) -> io::Result<()> {
     let mut times = [7u16; 255];
     let mut arrows = [[7u16; 2]; 2048];
     match read_stg(b"1\n0 0 0\n1 5 0\n2 0 0\n", &mut times, &mut arrows) {
-        Counts::Refused(refusal) => print_refusal(rt, refusal),
-        Counts::Read(_) => print(rt, b" read"),
+        Ok(_) => print!(rt; " read"),
+        Err(refusal) => print_refusal(rt, refusal),
     }
 }
 
 // and of a plan.
 fn refused_plans(rt: &impl Print, fives: &[u16], none: &[[u16; 2]]) -> io::Result<()> {
-    print(rt, b"\n12:")?;
+    print!(rt; "\n12:")?;
     checked_alone(rt, fives, none, 2, at(1, 0))?;
-    print(rt, b"\n13:")?;
+    print!(rt; "\n13:")?;
     checked(rt, fives, none, 2, at(1, 0), at(3, 0))?;
-    print(rt, b"\n14:")?;
+    print!(rt; "\n14:")?;
     checked(rt, fives, none, 2, at(1, 0), at(2, 16776961))?;
-    print(rt, b"\n16:")?;
+    print!(rt; "\n16:")?;
     checked(rt, fives, none, 2, at(1, 0), at(1, 4))?;
-    print(rt, b"\n")
+    print!(rt; "\n")
 }
 
 // The next field of a text, as the piece of it that holds the digits.
 fn next_piece(rt: &impl Print) -> io::Result<()> {
-    print(rt, b"next field ")?;
-    print(rt, next_field(b" \t12 3", 2))?;
-    print(rt, b"\n")
+    print!(rt; "next field ")?;
+    rt.write_all(next_field(b" \t12 3", 2))?;
+    print!(rt; "\n")
 }
 
 fn main(rt: HostRuntime) -> io::Result<()> {
@@ -290,7 +250,7 @@ fn main(rt: HostRuntime) -> io::Result<()> {
     longest_chain(&rt)?;
     refused_graphs(&rt)?;
     long_last(&rt, &none)?;
-    print(&rt, b"\nrefusals")?;
+    print!(&rt; "\nrefusals")?;
     refused_questions(&rt, &fives, &none)?;
     refused_rows(&rt)?;
     refused_plans(&rt, &fives, &none)?;

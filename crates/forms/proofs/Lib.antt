@@ -1,2 +1,1 @@
-pub mod TwoRows
-pub mod Tables
+pub mod PlanEnds

@@ -1,10 +1,9 @@
 // Reads an STG text from standard input, and prints C, P, S and the end of the list plan in the order 1..n for 1 to 4 processors.
 #![tactic(auto)]
 
-ghost use Rattle.std.specs.Io.{ReadsAtMost};
-
+use forms::blank;
 use inputs::order_by_number;
-use listplan::draft_plan;
+use listplan::list_plan;
 use std::io;
 use std::io::Read;
 use stg::read_stg;
@@ -30,8 +29,7 @@ fn report(
     order: &[u16],
 ) -> io::Result<()> {
     let answer = judge(times, arrows, m, 1);
-    let draft = draft_plan(times, arrows, m, order, times.len());
-    match draft.reply {
+    match list_plan(times, arrows, m, order, &mut blank()) {
         Ok(end) => print_line(rt, m, answer.figures, end),
         Err(refusal) => print_refusal(rt, refusal),
     }
@@ -61,24 +59,9 @@ fn run(rt: &impl Print, text: &[u8]) -> io::Result<()> {
     }
 }
 
-// Reads until the buffer is full or the input ends, and answers how many bytes stand at its front then.
-fn read_full(input: &mut impl Read, buffer: &mut [u8]) -> io::Result<usize>
-    ensures { ReadsAtMost result buffer.new }
-{
-    let mut done = 0;
-    while done < buffer.len() {
-        let size = input.read(&mut buffer[done..])?;
-        if size == 0 {
-            return Ok(done);
-        }
-        done += size;
-    }
-    Ok(done)
-}
-
 // One byte more than a text may have is enough to refuse a longer one.
 fn main(rt: HostRuntime) -> io::Result<()> {
-    let mut text = [0u8; 60001];
-    let n = read_full(&mut rt.stdin(), &mut text)?;
-    run(&rt, &text[..n])
+    let mut text = Vec::new(rt.alloc());
+    rt.stdin().take(60001).read_to_end(&mut text)?;
+    run(&rt, &text)
 }

@@ -3,3 +3,4 @@ pub mod Chains
 pub mod Ordered
 pub mod Latest
 pub mod Finds
+pub mod Links

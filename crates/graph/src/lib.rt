@@ -11,10 +11,11 @@ ghost use Rattle.std.specs.Prelude.{◌≡◌, [], ◌∷◌, ◌+◌, ◌≤◌
 ghost use Rattle.terms.specs.Rows.{Accepted};
 ghost use Rattle.terms.specs.Refusals.{first_arrow, NamesOutside, subtask_rows, size_rows, arrow_rows, graph_rows, named_rows, on_rows};
 ghost use Rattle.terms.specs.Replies.{IsCheck, IsMeasure, IsTotalWork, IsLongestPath};
+ghost use Rattle.graph.specs.Links.{IsEmpty};
 ghost use Rattle.graph.specs.Finds.{Finds, WrongEnds};
 ghost use Rattle.graph.specs.Scans.{AllJoin};
 
-use crate::chains::chain;
+use crate::chains::{Chained, Links};
 use crate::cycle::lowest_on_cycle;
 use crate::order::order_subtasks;
 use crate::scan::{all_join_two, first_loop, first_outside, first_repeat};
@@ -49,26 +50,26 @@ fn refuse_ends(n: usize, arrows: &[[u16; 2]]) -> Refusal
 fn check_arrows(
     times: &[u16],
     arrows: &[[u16; 2]],
-    first: &mut [u32; 257],
-    next: &mut [u16; 2048],
+    links: &mut Links,
     order: &mut [u16; 256],
 ) -> Result<(), Refusal>
     requires accepted { Accepted (subtask_rows times.now) × Accepted (size_rows arrows.now) }
-    requires first_value { (first.old ≡ replicate 257 0) × (length next.old ≡ 2048) × (length order.old ≡ 256) }
+    requires empty { IsEmpty links.old × (length order.old ≡ 256) }
     ensures { Finds (arrow_rows times.now arrows.now)
-        times.now arrows.now first.new next.new order.new result }
+        times.now arrows.now links.new order.new result }
 {
     let n = times.len();
     if !all_join_two(n, arrows) {
         return Err(refuse_ends(n, arrows));
     }
-    chain(n, arrows, first, next);
-    if let Some(repeat) = first_repeat(n, arrows, first, next) {
+    links.link(n, arrows);
+    let graph = Chained { n, arrows, links };
+    if let Some(repeat) = first_repeat(&graph) {
         return Err(Refusal::ArrowTwice(position_of(repeat)));
     }
-    match order_subtasks(n, arrows, first, next, order) {
+    match order_subtasks(&graph, order) {
         Ok(()) => Ok(()),
-        Err(from) => match lowest_on_cycle(n, arrows, first, next, from) {
+        Err(from) => match lowest_on_cycle(&graph, from) {
             Some(lowest) => Err(Refusal::Cycle(lowest.0 as u32)),
             None => unreachable!(),
         },
@@ -79,27 +80,25 @@ fn check_arrows(
 fn check_and_order(
     times: &[u16],
     arrows: &[[u16; 2]],
-    first: &mut [u32; 257],
-    next: &mut [u16; 2048],
+    links: &mut Links,
     order: &mut [u16; 256],
 ) -> Result<(), Refusal>
-    requires { (first.old ≡ replicate 257 0) × (length next.old ≡ 2048) × (length order.old ≡ 256) }
+    requires { IsEmpty links.old × (length order.old ≡ 256) }
     ensures { Finds (graph_rows times.now arrows.now)
-        times.now arrows.now first.new next.new order.new result }
+        times.now arrows.now links.new order.new result }
 {
     check_subtasks(times)?;
     check_size(arrows)?;
-    check_arrows(times, arrows, first, next, order)
+    check_arrows(times, arrows, links, order)
 }
 
 // Whether a graph is accepted.
 pub fn check(times: &[u16], arrows: &[[u16; 2]]) -> Result<(), Refusal>
     ensures { IsCheck (graph_rows times.now arrows.now) result }
 {
-    let mut first = [0u32; 257];
-    let mut next = [0u16; 2048];
+    let mut links = Links::none();
     let mut order = [0u16; 256];
-    check_and_order(times, arrows, &mut first, &mut next, &mut order)
+    check_and_order(times, arrows, &mut links, &mut order)
 }
 
 // Whether a graph on m processors is accepted.
@@ -138,13 +137,17 @@ pub fn check_named(times: &[u16], arrows: &[[u16; 2]]) -> Result<(), Refusal>
 pub fn measure(times: &[u16], arrows: &[[u16; 2]]) -> Result<Weights, Refusal>
     ensures { IsMeasure (graph_rows times.now arrows.now) times.now arrows.now result }
 {
-    let mut first = [0u32; 257];
-    let mut next = [0u16; 2048];
+    let mut links = Links::none();
     let mut order = [0u16; 256];
-    check_and_order(times, arrows, &mut first, &mut next, &mut order)?;
+    check_and_order(times, arrows, &mut links, &mut order)?;
+    let graph = Chained {
+        n: times.len(),
+        arrows,
+        links: &links,
+    };
     Ok(Weights {
         c: total(times),
-        p: longest(times, arrows, &first, &next, &order),
+        p: longest(times, &graph, &order),
     })
 }
 

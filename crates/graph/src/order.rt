@@ -1,10 +1,8 @@
 // The order "predecessors first".
 ghost use Rattle.std.specs.Prelude.{◌≡◌, length};
-ghost use Rattle.terms.specs.Graphs.{to_of};
-ghost use Rattle.graph.specs.Chains.{Chains, Tidy};
 ghost use Rattle.graph.specs.Ordered.{Orders};
 
-use crate::chains::{chain_begin, chain_next, source};
+use crate::chains::Chained;
 use inputs::to_at;
 use terms::Subtask;
 
@@ -12,42 +10,34 @@ use terms::Subtask;
 // is a subtask below which none is on one. It goes back along the arrows from each subtask in turn. At u, c is the position of the arrow that
 // is looked at; the arrows on the way to u stand on the stack. A mark is 1 where the subtask was not come to, its depth on the way and 2
 // where it is on the way, and 0 once it is placed.
-pub fn order_subtasks(
-    n: usize,
-    arrows: &[[u16; 2]],
-    first: &[u32; 257],
-    next: &[u16; 2048],
-    order: &mut [u16; 256],
-) -> Result<(), Subtask>
-    requires tidy { Tidy n arrows.now }
-    requires chains { Chains (to_of arrows.now) first.now next.now (length arrows.now) }
-    requires order_len { length order.old ≡ 256 }
-    ensures { Orders n arrows.now order.new result }
+pub fn order_subtasks(graph: &Chained<'_>, order: &mut [u16; 256]) -> Result<(), Subtask>
+    requires { length order.old ≡ 256 }
+    ensures { Orders graph.now.n graph.now.arrows.now order.new result }
 {
     let mut mark = [1u16; 257];
     let mut stack = [0u16; 256];
     let mut placed: usize = 0;
-    for root in 1..=n {
+    for root in 1..=graph.n {
         if mark[root] != 1 {
             continue;
         }
         mark[root] = 2;
         let mut depth: usize = 0;
         let mut u = root;
-        let mut c = chain_begin(first, Subtask(root));
+        let mut c = graph.begin(Subtask(root));
         loop {
             if c != 0 {
-                let from = source(arrows, c);
+                let from = graph.source(c);
                 let p = from.0;
                 let m = mark[p];
                 if m == 0 {
-                    c = chain_next(next, c);
+                    c = graph.after(c);
                 } else if m == 1 {
                     stack[depth] = c as u16;
                     depth += 1;
                     mark[p] = (depth + 2) as u16;
                     u = p;
-                    c = chain_begin(first, from);
+                    c = graph.begin(from);
                 } else {
                     return Err(Subtask(root));
                 }
@@ -60,9 +50,9 @@ pub fn order_subtasks(
                 }
                 depth -= 1;
                 let a = usize::from(stack[depth]);
-                let to = to_at(arrows, a - 1);
+                let to = to_at(graph.arrows, a - 1);
                 u = to.0;
-                c = chain_next(next, a);
+                c = graph.after(a);
             }
         }
     }

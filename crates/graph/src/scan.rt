@@ -1,13 +1,12 @@
 // Scans over the arrows. One that answers a place answers the first at which a condition holds.
 ghost use Rattle.std.specs.Prelude.{◌≡◌, ◌≤◌, length, get_or};
-ghost use Rattle.terms.specs.Graphs.{Among, to_of};
+ghost use Rattle.terms.specs.Graphs.{Among};
 ghost use Rattle.terms.specs.Refusals.{Repeats};
 ghost use Rattle.theory.specs.First.{IsFirst};
 ghost use Rattle.theory.specs.Flags.{Says};
 ghost use Rattle.graph.specs.Scans.{Outside, Loops, TwoOf, AllJoin, earlier_of};
-ghost use Rattle.graph.specs.Chains.{Chains, Tidy};
 
-use crate::chains::{chain_begin, chain_next, source};
+use crate::chains::Chained;
 use terms::Subtask;
 
 // Whether a number is one of the subtasks 1..most.
@@ -66,30 +65,23 @@ fn earlier(found: Option<usize>, place: usize) -> usize
 
 // 6: the first arrow that is the same as one before it. Along the chain of arrows into v, the latest first, met[u] is the position of the
 // arrow from u that was met last, and seen[u] the subtask in whose chain: where that is v, the arrow is the same as the present one.
-pub fn first_repeat(
-    n: usize,
-    arrows: &[[u16; 2]],
-    first: &[u32; 257],
-    next: &[u16; 2048],
-) -> Option<usize>
-    requires tidy { Tidy n arrows.now }
-    requires chains { Chains (to_of arrows.now) first.now next.now (length arrows.now) }
-    ensures { IsFirst (length arrows.now) (Repeats arrows.now) result }
+pub fn first_repeat(graph: &Chained<'_>) -> Option<usize>
+    ensures { IsFirst (length graph.now.arrows.now) (Repeats graph.now.arrows.now) result }
 {
     let mut seen = [0u16; 257];
     let mut met = [0u16; 257];
     let mut found: Option<usize> = None;
-    for v in 1..=n {
-        let mut c = chain_begin(first, Subtask(v));
+    for v in 1..=graph.n {
+        let mut c = graph.begin(Subtask(v));
         while c != 0 {
-            let from = source(arrows, c);
+            let from = graph.source(c);
             let u = from.0;
             if usize::from(seen[u]) == v {
                 found = Some(earlier(found, usize::from(met[u]) - 1));
             }
             seen[u] = v as u16;
             met[u] = c as u16;
-            c = chain_next(next, c);
+            c = graph.after(c);
         }
     }
     found

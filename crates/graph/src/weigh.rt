@@ -1,12 +1,10 @@
 // C and P.
 ghost use Rattle.std.specs.Prelude.{◌≡◌, ◌≤◌, ◌<◌, length};
-ghost use Rattle.terms.specs.Graphs.{to_of};
 ghost use Rattle.terms.specs.Paths.{total_work, IsLongest};
-ghost use Rattle.graph.specs.Chains.{Chains, Tidy};
 ghost use Rattle.graph.specs.Ordered.{Ordered};
 ghost use Rattle.graph.specs.Latest.{Latest};
 
-use crate::chains::{chain_begin, chain_next, source};
+use crate::chains::Chained;
 use inputs::time_of;
 use terms::Subtask;
 
@@ -19,48 +17,33 @@ pub fn total(times: &[u16]) -> u32
 }
 
 // The largest finish of the subtasks from which an arrow of the chain goes to v, 0 for none.
-fn latest(
-    n: usize,
-    v: Subtask,
-    arrows: &[[u16; 2]],
-    first: &[u32; 257],
-    next: &[u16; 2048],
-    finish: &[u32; 257],
-) -> u32
-    requires tidy { Tidy n arrows.now × (v.0 < 257) }
-    requires chains { Chains (to_of arrows.now) first.now next.now (length arrows.now) }
-    ensures { Latest arrows.now finish.now v.0 0 result }
+fn latest(graph: &Chained<'_>, v: Subtask, finish: &[u32; 257]) -> u32
+    requires { v.0 < 257 }
+    ensures { Latest graph.now.arrows.now finish.now v.0 0 result }
 {
     let to = v.0;
     let mut most: u32 = 0;
-    let mut c = chain_begin(first, Subtask(to));
+    let mut c = graph.begin(Subtask(to));
     while c != 0 {
-        let from = source(arrows, c);
+        let from = graph.source(c);
         let p = from.0;
         most = most.max(finish[p]);
-        c = chain_next(next, c);
+        c = graph.after(c);
     }
     most
 }
 
 // P: in an order with predecessors first, the largest weight of a path that ends in each subtask; the largest of all.
-pub fn longest(
-    times: &[u16],
-    arrows: &[[u16; 2]],
-    first: &[u32; 257],
-    next: &[u16; 2048],
-    order: &[u16; 256],
-) -> u32
-    requires tidy { Tidy (length times.now) arrows.now × (1 ≤ length times.now) }
-    requires chains { Chains (to_of arrows.now) first.now next.now (length arrows.now) }
-    requires ordered { Ordered (length times.now) arrows.now order.now }
-    ensures { IsLongest times.now arrows.now result }
+pub fn longest(times: &[u16], graph: &Chained<'_>, order: &[u16; 256]) -> u32
+    requires subtasks { (graph.now.n ≡ length times.now) × (1 ≤ length times.now) }
+    requires ordered { Ordered (length times.now) graph.now.arrows.now order.now }
+    ensures { IsLongest times.now graph.now.arrows.now result }
 {
     let mut finish = [0u32; 257];
     let mut most: u32 = 0;
     for &entry in &order[..times.len()] {
         let v = usize::from(entry);
-        let before = latest(times.len(), Subtask(v), arrows, first, next, &finish);
+        let before = latest(graph, Subtask(v), &finish);
         let time = time_of(times, Subtask(v));
         let f = before + time;
         finish[v] = f;

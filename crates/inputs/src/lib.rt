@@ -11,13 +11,13 @@ use terms::{Arrow, Subtask};
 pub fn usize_from_u8(byte: u8) -> usize
     ensures { (result ≡ byte) × (result < 256) }
 {
-    byte as usize
+    usize::from(byte)
 }
 
 pub fn usize_from_u16(short: u16) -> usize
     ensures { (result ≡ short) × (result < 65536) }
 {
-    short as usize
+    usize::from(short)
 }
 
 pub fn usize_from_u32(word: u32) -> usize
@@ -29,14 +29,14 @@ pub fn usize_from_u32(word: u32) -> usize
 pub fn u32_from_u16(x: u16) -> u32
     ensures { (result ≡ x) × (result < 65536) }
 {
-    x as u32
+    u32::from(x)
 }
 
 // The larger of two numbers.
 pub fn larger(a: u32, b: u32) -> u32
     ensures { result ≡ max a b }
 {
-    if a < b { b } else { a }
+    a.max(b)
 }
 
 // The time of a subtask, and 0 for a number that is none.
@@ -44,13 +44,10 @@ pub fn time_of(times: &[u16], subtask: Subtask) -> u32
     ensures { IsTimeOf times.now subtask.0 result }
 {
     let j = subtask.0;
-    if j < 1 {
+    if j < 1 || times.len() < j {
         return 0;
     }
-    if times.len() < j {
-        return 0;
-    }
-    u32_from_u16(times[j - 1])
+    u32::from(times[j - 1])
 }
 
 // The arrow at a place of the row.
@@ -63,10 +60,10 @@ pub fn arrow_at(arrows: &[[u16; 2]], place: usize) -> Arrow
             to: Subtask(0),
         };
     }
-    let ends = arrows[place];
+    let [from, to] = arrows[place];
     Arrow {
-        from: Subtask(usize_from_u16(ends[0])),
-        to: Subtask(usize_from_u16(ends[1])),
+        from: Subtask(usize::from(from)),
+        to: Subtask(usize::from(to)),
     }
 }
 
@@ -74,26 +71,24 @@ pub fn arrow_at(arrows: &[[u16; 2]], place: usize) -> Arrow
 pub fn from_at(arrows: &[[u16; 2]], place: usize) -> Subtask
     ensures { (result.0 ≡ from_of arrows.now place) × (result.0 < 65536) }
 {
-    let arrow = arrow_at(arrows, place);
-    arrow.from
+    arrow_at(arrows, place).from
 }
 
 // Where it goes to.
 pub fn to_at(arrows: &[[u16; 2]], place: usize) -> Subtask
     ensures { (result.0 ≡ to_of arrows.now place) × (result.0 < 65536) }
 {
-    let arrow = arrow_at(arrows, place);
-    arrow.to
+    arrow_at(arrows, place).to
 }
 
 // The subtask at a place of an order.
 pub fn subtask_at(order: &[u16], place: usize) -> Subtask
     ensures { (result.0 ≡ get_or order.now place 0) × (result.0 < 65536) }
 {
-    if order.len() <= place {
-        return Subtask(0);
+    match order.get(place) {
+        Some(number) => Subtask(usize::from(*number)),
+        None => Subtask(0),
     }
-    Subtask(usize_from_u16(order[place]))
 }
 
 // The order 1, 2, 3, .. of 256 subtasks.
@@ -101,10 +96,8 @@ pub fn order_by_number() -> [u16; 256]
     ensures { (length result ≡ 256) × ((i : ℕ) → i < 256 → get_or result i 0 ≡ i + 1) }
 {
     let mut order = [0u16; 256];
-    let mut j: u16 = 0;
-    while j < 256 {
-        order[usize_from_u16(j)] = j + 1;
-        j += 1;
+    for j in 0..256u16 {
+        order[usize::from(j)] = j + 1;
     }
     order
 }

@@ -5,13 +5,15 @@ use mathlib.Core.List.{List, [], ◌∷◌, ◌++◌, append_assoc}
 use Prim.Native.Nat.{ℕ, ◌+◌, ◌≤◌, ◌<◌}
 use native.Mathlib.Omega.{arith}
 use lib.ListN.{length, length-append}
-use Rattle.terms.specs.Rows.{Accepted, RefusedBy, Row, row, refusal_of}
+use Rattle.terms.specs.Rows.{Accepted, RefusedBy, Row, row}
 use Rattle.terms.specs.Refusals.{graph_rows, join_rows}
 use Rattle.terms.specs.Joins.{Graph, size, joined_to}
 use Rattle.terms.specs.declared.Refusal.{Refusal}
 use Rattle.theory.specs.Joined.{IsAccepted}
-use Rattle.theory.proofs.Answers.{refused_first, refused_later, accepted_join, accepted_both, Passed, begin, past, past_all, stop_with, done}
+use Rattle.terms.proofs.Decisions.{told}
+use Rattle.theory.proofs.Answers.{refused_first, refused_later, accepted_join, accepted_both, Passed, begin, past, past_all, stop, done}
 use Rattle.joins.specs.Tables.{both_rows, made_rows}
+use Rattle.terms.specs.declared.Refusal.TheVariants.{JoinedSubtasks}
 
 -- ---- 1 to 7 of the first, 1 to 7 of the second, 30
 
@@ -29,8 +31,8 @@ module _ (a b : Graph) where
   unfolding both_rows
   asked p q = past_all (graph_rows b.times b.arrows) (past_all (graph_rows a.times a.arrows) (begin _) p) q
 
-  pub too_many : (refusal : Refusal) → IsAccepted a → IsAccepted b → 256 < size a + size b → refusal ≡ refusal_of 30 → RefusedBy (both_rows a b) refusal
-  too_many refusal p q l e = stop_with (asked p q) (omega (arith, l, length-append a.times b.times)) e
+  pub too_many : IsAccepted a → IsAccepted b → 256 < size a + size b → RefusedBy (both_rows a b) JoinedSubtasks
+  too_many p q l = stop (asked p q) (omega (arith, l, length-append a.times b.times)) told
 
   pub both_accepted : IsAccepted a → IsAccepted b → size a + size b ≤ 256 → Accepted (both_rows a b)
   both_accepted p q l = done (past (asked p q) (λ h. omega (arith, h, l, length-append a.times b.times)))

@@ -10,13 +10,10 @@ use Rattle.terms.specs.Rows.{Accepted, RefusedBy}
 use Rattle.terms.specs.Arrangements.{predecessors_of, successors_of, is_none, lasts_of, firsts_of, for_each, out_of, sorted_by_from}
 use Rattle.terms.specs.Replies.{IsJoined}
 use Rattle.terms.specs.Joins.{Graph, size, Way, end_to_end, side_by_side, entered, moved, joined_to, joined}
-use Rattle.terms.specs.declared.Counts.{Counts}
-use Rattle.terms.specs.declared.Counts.TheVariants as counts
 use Rattle.terms.specs.declared.Refusal.{Refusal}
 use Rattle.theory.specs.Joined.{or_else}
 use Rattle.theory.proofs.Accepted.{sound_graph}
 use Rattle.theory.proofs.Ascending.{at_has, passing_has, each_same}
-use Rattle.theory.proofs.Stores.{sets_append}
 use Rattle.theory.proofs.TextLengths.{passing_few}
 use Rattle.theory.proofs.JoinedRows.{joined_rows, joined_many}
 use Rattle.arranged.specs.Free.{free_from, free_to, IsFront}
@@ -25,6 +22,8 @@ use Rattle.joins.specs.Tables.{both_rows, made_rows, Joinable}
 use Rattle.joins.specs.Puts.{Puts, rows_arrows, Moves}
 use Rattle.joins.proofs.RowByRow.{puts_then}
 use Rattle.joins.proofs.Answered.{both_accepted, both_sound, both_refuse, made_refused, made_accepted, made_room}
+use Rattle.std.specs.Prelude.{Result, Ok, Err}
+use Rattle.terms.specs.declared.GraphSize.{GraphSize}
 
 -- ---- the targets, and those that arrows are added to them from
 
@@ -150,7 +149,7 @@ module _ {a b : Graph} {targets : List ℕ} (can : Joinable a b targets) where
       made_same = ap₂ (λ (x y : ℕ). made_rows x y (length times) (length arrows)) n_is many_is
 
       pub join_refused : (refusal : Refusal) → RefusedBy (made_rows n many (length times) (length arrows)) refusal
-          → IsJoined a b g times arrows times arrows (counts.Refused refusal)
+          → IsJoined a b g times arrows times arrows (Err refusal)
       unfolding IsJoined
       join_refused refusal h = (made_refused targets a b (length times) (length arrows) refusal accepted (rw made_same at h), refl, refl)
 
@@ -158,32 +157,24 @@ module _ {a b : Graph} {targets : List ℕ} (can : Joinable a b targets) where
       join_room h = let r = made_room n many (length times) (length arrows) h in (r.0, rw (← many_is) r.1)
 
       pub join_made : {times' : List ℕ} {arrows' : List (List ℕ)} → Accepted (made_rows n many (length times) (length arrows))
-          → times' ≡ sets times 0 (a.times ++ b.times) → arrows' ≡ sets arrows 0 g.arrows
-          → IsJoined a b g times arrows times' arrows' (counts.Read (record { subtasks = n; arrows = many }))
+          → times' ≡ a.times ++ b.times ++ drop n times → arrows' ≡ sets arrows 0 g.arrows
+          → IsJoined a b g times arrows times' arrows' (Ok (record { subtasks = n; arrows = many }))
       unfolding IsJoined
       join_made h e d =
           let r = join_room h in
-          let s : 0 + size g ≡ n = omega (arith, n_is) in
           let t : 0 + length g.arrows ≡ many = omega (arith, many_is) in (
             made_accepted targets a b (length times) (length arrows) accepted (rw made_same at h),
             n_is,
             many_is,
-            e ∙ sets-eq (a.times ++ b.times) times 0 (omega (arith, s, r.0)) ∙ ap (λ (k : ℕ). a.times ++ b.times ++ drop k times) s,
+            e,
             d ∙ sets-eq g.arrows arrows 0 (omega (arith, r.1)) ∙ ap (λ (k : ℕ). g.arrows ++ drop k arrows) t,
           )
-
--- the first's times and then the second's
-pub times_put : (first second times : List ℕ) {between after : List ℕ} → between ≡ sets times 0 first → after ≡ sets between (length first) second
-    → after ≡ sets times 0 (first ++ second)
-times_put first second times e d =
-    let z : length first ≡ 0 + length first = omega arith in
-    d ∙ ap₂ (λ (row : List ℕ) (i : ℕ). sets row i second) e z ∙ sym (sets_append times 0 first second)
 
 -- ---- from the two graphs' check on
 
 module _ (a b : Graph) where
   pub refused_both : (way : Way) (times : List ℕ) (arrows : List (List ℕ)) (refusal : Refusal) → RefusedBy (both_rows a b) refusal
-      → IsJoined a b (joined way a b) times arrows times arrows (counts.Refused refusal)
+      → IsJoined a b (joined way a b) times arrows times arrows (Err refusal)
   unfolding IsJoined
   refused_both way times arrows refusal h = (both_refuse (entered way b) a b (length times) (length arrows) refusal h, refl, refl)
 
@@ -200,7 +191,7 @@ module _ (a b : Graph) where
     pub begun : {before list : List ℕ} {k : ℕ} → IsFront (free_to b.arrows (min (size b) 256)) before list k → Leads (firsts_of (size b) b.arrows) list k
     begun = front_firsts (sound_graph b.times b.arrows (both_sound a b sound).1)
 
-  pub joined_by : (way : Way) {targets : List ℕ} (times : List ℕ) (arrows : List (List ℕ)) (times' : List ℕ) (arrows' : List (List ℕ)) (r : Counts)
+  pub joined_by : (way : Way) {targets : List ℕ} (times : List ℕ) (arrows : List (List ℕ)) (times' : List ℕ) (arrows' : List (List ℕ)) (r : Result GraphSize Refusal)
       → targets ≡ entered way b → IsJoined a b (joined_to targets a b) times arrows times' arrows' r
       → IsJoined a b (joined way a b) times arrows times' arrows' r
   joined_by way times arrows times' arrows' r e h = rw e at h

@@ -1,18 +1,19 @@
 -- The arrows out of n subtasks put down row by row. Assumes nothing.
-use mathlib.Core.Path.{◌≡◌, refl, sym, ap, ap₂, ◌∙◌, subst}
+use mathlib.Core.Path.{◌≡◌, refl, sym, ap, ap₂, ◌∙◌}
 use mathlib.Core.List.{List, [], ◌∷◌, ◌++◌, map, map-map, map-append}
 use Prim.Native.Nat.{ℕ, zero, suc, ◌+◌, ◌-◌, ◌≤◌, ◌<◌}
 use native.Mathlib.Omega.{arith}
 use native.Mathlib.Nat.{add_assoc}
-use lib.ListN.{length, get_or, length-append, length-map}
-use lib.Seq.{sets, length-sets, take-length}
+use lib.ListN.{length, get_or, take, drop, length-append, length-drop, length-map}
+use lib.Seq.{sets, length-sets}
+use Rattle.std.proofs.lemmas.List.{length-take-le, get_or-take, get_or-drop}
 use Rattle.terms.specs.Graphs.{Among}
 use Rattle.terms.specs.Arrangements.{for_each, out_of, stretch, row_of}
 use Rattle.terms.specs.Joins.{moved}
 use Rattle.theory.specs.Joined.{or_else}
 use Rattle.theory.proofs.Stores.{sets_append}
-use Rattle.theory.proofs.Ascending.{stretch_length, stretch_part}
-use Rattle.joins.specs.Puts.{Puts, run_of, Run, rows_arrows, SmallRows, Moves}
+use Rattle.theory.proofs.Ascending.{stretch_part}
+use Rattle.joins.specs.Puts.{Puts, run_of, rows_arrows, SmallRows, Moves}
 
 -- some, and others behind them
 pub puts_then : {A : Type 0} {before between after : List A} {at k next : ℕ} {xs ys : List A} → Puts before at xs between k → Puts between k ys after next
@@ -59,133 +60,132 @@ module _ (up n : ℕ) (targets : List ℕ) (row : ℕ → List ℕ) where
 
 -- ---- the loop
 
--- the arrows of the first v rows are put
-pub record RowsPut (before : List (List ℕ)) (at up n : ℕ) (targets : List ℕ) (row : ℕ → List ℕ) (arrows : List (List ℕ)) (k v : ℕ) : Type 0 where
-  pub put : Puts before at (rows_arrows up n targets row v) arrows k
-  pub inside : v ≤ n
+pub rows_none : (up n : ℕ) (targets : List ℕ) (row : ℕ → List ℕ) (before : List (List ℕ)) (at : ℕ) → Puts before at (rows_arrows up n targets row 0) before at
+unfolding rows_arrows for_each
+rows_none up n targets row before at = record { behind = omega arith; stands = refl }
 
-module _ {before : List (List ℕ)} {at up n : ℕ} {targets : List ℕ} {row : ℕ → List ℕ} where
-  pub rows_none : RowsPut before at up n targets row before at 0
-  unfolding rows_arrows for_each
-  rows_none = record { put = record { behind = omega arith; stands = refl }; inside = omega arith }
-
-  pub rows_all : {arrows : List (List ℕ)} {k v : ℕ} → n ≤ v → RowsPut before at up n targets row arrows k v
-      → Puts before at (rows_arrows up n targets row n) arrows k
-  rows_all {arrows} {k} {v} h p =
-      let e : v ≡ n = omega (arith, h, p.inside) in
-      subst (λ (m : ℕ). Puts before at (rows_arrows up n targets row m) arrows k) e p.put
-
-  pub rows_same : {arrows : List (List ℕ)} {k v : ℕ} → RowsPut before at up n targets row arrows k v → length arrows ≡ length before
-  rows_same {v = v} p = ap length p.put.stands ∙ length-sets before at (rows_arrows up n targets row v)
-
--- what is known where a row comes next: it begins and ends here
+-- what is known where the row of v comes next, between these places of the table
 pub record NextRow (before : List (List ℕ)) (at up n : ℕ) (targets begins numbers : List ℕ) (arrows : List (List ℕ)) (k v begin end : ℕ) : Type 0 where
-  pub so_far : RowsPut before at up n targets (row_of begins numbers) arrows k v
+  pub so_far : Puts before at (rows_arrows up n targets (row_of begins numbers) (v - 1)) arrows k
   pub rows : SmallRows n begins numbers
   pub moves : Moves up n targets
   pub room : at + length (rows_arrows up n targets (row_of begins numbers) n) ≤ length before
-  pub more : v < n
-  pub begin_is : begin ≡ get_or begins v 0
-  pub end_is : end ≡ get_or begins (v + 1) 0
+  pub is : Among 1 n v
+  pub begin_is : begin ≡ get_or begins (v - 1) 0
+  pub end_is : end ≡ get_or begins v 0
+
+else_some : (targets row : List ℕ) → ¬ (length row ≡ 0) → or_else targets row ≡ row
+else_some targets [] d = absurd (d refl)
+else_some targets (x ∷ row) d = refl
+
+else_none : (targets row : List ℕ) → length row ≡ 0 → or_else targets row ≡ targets
+else_none targets [] e = refl
+else_none targets (x ∷ row) e = absurd (omega (arith, e))
 
 module _ {before : List (List ℕ)} {at up n : ℕ} {targets begins numbers : List ℕ} {arrows : List (List ℕ)} {k v begin end : ℕ}
     (next : NextRow before at up n targets begins numbers arrows k v begin end) where
   abbrev row : ℕ → List ℕ
   row = row_of begins numbers
 
-  subtask : Among 1 n (v + 1)
-  subtask = record { low = omega arith; high = omega (arith, next.more) }
+  -- its part of the table
+  abbrev pub part : List ℕ
+  part = take (end - begin) (drop begin numbers)
 
-  begun : get_or begins (v + 1 - 1) 0 ≡ begin
-  begun = let e : v + 1 - 1 ≡ v = omega arith in ap (λ (i : ℕ). get_or begins i 0) e ∙ sym next.begin_is
+  pub rises : begin ≤ end
+  rises = omega (arith, next.rows.rises v next.is, next.begin_is, next.end_is)
 
-  pub from_small : up + (v + 1) < 65536
-  from_small = omega (arith, next.moves.few, next.more)
+  pub inside : end ≤ length numbers
+  inside = omega (arith, next.rows.inside v next.is, next.end_is)
 
-  pub up_small : up + n ≤ 256
-  up_small = next.moves.few
+  size : length part ≡ end - begin
+  size = length-take-le (end - begin) (drop begin numbers) (omega (arith, length-drop begin numbers, inside))
 
-  pub row_run : Run numbers begin end up
-  row_run = record {
-    rises = omega (arith, next.rows.rises (v + 1) subtask, begun, next.end_is);
-    inside = omega (arith, next.rows.inside (v + 1) subtask, next.end_is);
-    small = λ i l h. omega (
-      arith,
-      next.rows.small (v + 1) i subtask (omega (arith, l, begun)) (omega (arith, h, next.end_is)),
-      next.moves.few,
-    );
-  }
+  -- no number is too large
+  pub from_small : up + v < 65536
+  from_small = omega (arith, next.moves.few, next.is.high)
 
-  pub targets_run : Run targets 0 (length targets) (up + n)
-  targets_run = record { rises = omega arith; inside = omega arith; small = λ i l h. omega (arith, next.moves.few, next.moves.small i h) }
+  pub part_small : (i : ℕ) → i < length part → up + get_or part i 0 < 65536
+  part_small i l = omega (
+    arith,
+    get_or-take (end - begin) (drop begin numbers) i 0 (omega (arith, l, size)),
+    get_or-drop begin numbers i 0,
+    next.rows.small v (begin + i) next.is (omega (arith, next.begin_is)) (omega (arith, l, size, next.end_is)),
+    next.moves.few,
+  )
 
-  row_is : row (v + 1) ≡ stretch numbers begin (end - begin)
+  pub targets_small : (i : ℕ) → i < length targets → up + n + get_or targets i 0 < 65536
+  targets_small i l = omega (arith, next.moves.small i l, next.moves.few)
+
+  row_is : row v ≡ part
   unfolding row_of
-  row_is = ap₂ (λ (f t : ℕ). stretch numbers f (t - f)) begun (sym next.end_is)
+  row_is = ap₂ (λ (f t : ℕ). stretch numbers f (t - f)) (sym next.begin_is) (sym next.end_is)
+      ∙ stretch_part numbers begin (end - begin) (omega (arith, rises, inside))
 
   -- the arrows that come next
   here : List (List ℕ)
-  here = next_run up n targets row (v + 1)
+  here = next_run up n targets row v
 
-  all_more : rows_arrows up n targets row (v + 1) ≡ rows_arrows up n targets row v ++ here
+  all_more : rows_arrows up n targets row v ≡ rows_arrows up n targets row (v - 1) ++ here
   unfolding here
   all_more =
-      let s : v + 1 ≡ suc v = omega arith in
-      rw s (rows_more up n targets row v)
+      let s : suc (v - 1) ≡ v = omega (arith, next.is.low) in
+      rw s at (rows_more up n targets row (v - 1))
 
   here_room : k + length here ≤ length arrows
   here_room =
-      let d = n - (v + 1) in
-      let e : d + (v + 1) ≡ n = omega (arith, next.more) in
+      let d = n - v in
+      let e : d + v ≡ n = omega (arith, next.is.high) in
       omega (
         arith,
         next.room,
-        rw e at (rows_fewer up n targets row (v + 1) d),
+        rw e at (rows_fewer up n targets row v d),
         ap length all_more,
-        length-append (rows_arrows up n targets row v) here,
-        next.so_far.put.behind,
-        rows_same next.so_far,
+        length-append (rows_arrows up n targets row (v - 1)) here,
+        next.so_far.behind,
+        ap length next.so_far.stands,
+        length-sets before at (rows_arrows up n targets row (v - 1)),
       )
 
-  here_put : {after : List (List ℕ)} {k' : ℕ} → Puts arrows k here after k' → RowsPut before at up n targets row after k' (v + 1)
-  here_put p = record { put = rw all_more (puts_then next.so_far.put p); inside = omega (arith, next.more) }
+  here_put : {after : List (List ℕ)} → after ≡ sets arrows k here → Puts before at (rows_arrows up n targets row v) after (k + length here)
+  here_put e = rw all_more (puts_then next.so_far (record { behind = refl; stands = e }))
 
-  -- a row that is not empty
-  here_row : ¬ (begin ≡ end) → here ≡ run_of (up + (v + 1)) up (stretch numbers begin (end - begin))
-  unfolding here next_run stretch
-  here_row d = ap (λ (l : List ℕ). run_of (up + (v + 1)) up (or_else (map (λ j. n + j) targets) l)) row_is ∙ go (end - begin) (omega (arith, d, row_run.rises))
-    where
-      go : (m : ℕ) → 1 ≤ m → run_of (up + (v + 1)) up (or_else (map (λ j. n + j) targets) (stretch numbers begin m))
-          ≡ run_of (up + (v + 1)) up (stretch numbers begin m)
-      go zero l = absurd (omega (arith, l))
-      go (suc m) l = refl
-
-  -- and one that is
-  here_targets : begin ≡ end → here ≡ run_of (up + (v + 1)) (up + n) (stretch targets 0 (length targets - 0))
-  unfolding here next_run stretch
-  here_targets e =
-      let z : end - begin ≡ 0 = omega (arith, e) in
-      let all : length targets - 0 ≡ length targets = omega arith in
-      ap (λ (l : List ℕ). run_of (up + (v + 1)) up (or_else (map (λ j. n + j) targets) l)) (row_is ∙ ap (λ (m : ℕ). stretch numbers begin m) z)
-      ∙ run_behind (up + (v + 1)) up n targets
-      ∙ ap (λ (l : List ℕ). run_of (up + (v + 1)) (up + n) l)
-      (sym (ap (λ (m : ℕ). stretch targets 0 m) all ∙ stretch_part targets 0 (length targets) (omega arith) ∙ take-length targets))
-
-  run_length : (from to : ℕ) (l : List ℕ) (f m : ℕ) → length (run_of from to (stretch l f m)) ≡ m
+  run_length : (from to : ℕ) (numbers : List ℕ) → length (run_of from to numbers) ≡ length numbers
   unfolding run_of
-  run_length from to l f m = length-map (stretch l f m) _ ∙ stretch_length l f m
+  run_length from to numbers = length-map numbers _
 
-  pub row_room : ¬ (begin ≡ end) → k + (end - begin) ≤ length arrows
-  row_room d = omega (arith, here_room, ap length (here_row d), run_length (up + (v + 1)) up numbers begin (end - begin))
+  -- where the row is empty
+  module _ (none : length part ≡ 0) where
+    here_targets : here ≡ run_of (up + v) (up + n) targets
+    unfolding here next_run
+    here_targets =
+        ap (λ (l : List ℕ). run_of (up + v) up (or_else (map (λ j. n + j) targets) l)) row_is
+        ∙ ap (run_of (up + v) up) (else_none (map (λ j. n + j) targets) part none)
+        ∙ run_behind (up + v) up n targets
 
-  pub targets_room : begin ≡ end → k + (length targets - 0) ≤ length arrows
-  targets_room e = omega (arith, here_room, ap length (here_targets e), run_length (up + (v + 1)) (up + n) targets 0 (length targets - 0))
+    targets_length : length here ≡ length targets
+    targets_length = ap length here_targets ∙ run_length (up + v) (up + n) targets
 
-  pub row_put : {after : List (List ℕ)} {k' : ℕ} → ¬ (begin ≡ end) → Puts arrows k (run_of (up + (v + 1)) up (stretch numbers begin (end - begin))) after k'
-      → RowsPut before at up n targets row after k' (v + 1)
-  row_put d p = here_put (rw (here_row d) p)
+    pub targets_room : k + length targets ≤ length arrows
+    targets_room = omega (arith, here_room, targets_length)
 
-  pub targets_put : {after : List (List ℕ)} {k' : ℕ} → begin ≡ end
-      → Puts arrows k (run_of (up + (v + 1)) (up + n) (stretch targets 0 (length targets - 0))) after k'
-      → RowsPut before at up n targets row after k' (v + 1)
-  targets_put e p = here_put (rw (here_targets e) p)
+    pub targets_put : {after : List (List ℕ)} → after ≡ sets arrows k (run_of (up + v) (up + n) targets)
+        → Puts before at (rows_arrows up n targets row v) after (k + length targets)
+    targets_put {after} e = rw targets_length at (here_put {after = after} (rw here_targets e))
+
+  -- and where it is not
+  module _ (some : ¬ (length part ≡ 0)) where
+    here_row : here ≡ run_of (up + v) up part
+    unfolding here next_run
+    here_row =
+        ap (λ (l : List ℕ). run_of (up + v) up (or_else (map (λ j. n + j) targets) l)) row_is
+        ∙ ap (run_of (up + v) up) (else_some (map (λ j. n + j) targets) part some)
+
+    row_length : length here ≡ length part
+    row_length = ap length here_row ∙ run_length (up + v) up part
+
+    pub row_room : k + length part ≤ length arrows
+    row_room = omega (arith, here_room, row_length)
+
+    pub row_put : {after : List (List ℕ)} → after ≡ sets arrows k (run_of (up + v) up part)
+        → Puts before at (rows_arrows up n targets row v) after (k + length part)
+    row_put {after} e = rw row_length at (here_put {after = after} (rw here_row e))

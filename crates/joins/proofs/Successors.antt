@@ -8,7 +8,6 @@ use Rattle.terms.specs.Graphs.{Among}
 use Rattle.terms.specs.Arrangements.{has_arrow, successors_of, targets_of, out_of, row_of}
 use Rattle.terms.specs.Replies.{IsArranged}
 use Rattle.terms.specs.Joins.{graph_of, moved}
-use Rattle.terms.specs.declared.Check.{Check}
 use Rattle.theory.specs.Joined.{IsAccepted, or_else}
 use Rattle.theory.proofs.Accepted.{sound_graph}
 use Rattle.theory.proofs.Ascending.{Has, passing_has, stretch_has, each_same}
@@ -16,6 +15,8 @@ use Rattle.theory.proofs.TimesOver.{targets_accepted}
 use Rattle.theory.proofs.OneArranged.{begin_within}
 use Rattle.arranged.proofs.OwnTables.{InTables, in_tables}
 use Rattle.joins.specs.Puts.{rows_arrows, SmallRows}
+use Rattle.std.specs.Prelude.{Result}
+use Rattle.terms.specs.declared.Refusal.{Refusal}
 
 -- the two tables hold the rows of successors of an accepted graph
 pub record Successors (times : List ℕ) (arrows : List (List ℕ)) (begins numbers : List ℕ) : Type 0 where
@@ -52,7 +53,7 @@ module _ (times : List ℕ) (arrows : List (List ℕ)) (accepted : IsAccepted (g
           small = at_most;
         }
 
-  pub successors : (begins numbers : List ℕ) (r : Check) → IsArranged (targets_of n arrows) times arrows (replicate 257 0) (replicate 2048 0) begins numbers r
+  pub successors : (begins numbers : List ℕ) (r : Result (Unit {0}) Refusal) → IsArranged (targets_of n arrows) times arrows (replicate 257 0) (replicate 2048 0) begins numbers r
       → Successors times arrows begins numbers
   successors begins numbers r answer =
       let held = in_tables times arrows accepted _ begins numbers r answer in

@@ -15,12 +15,6 @@ pub record Puts {A : Type 0} (before : List A) (at : ℕ) (wanted after : List A
 unfoldable pub run_of : ℕ → ℕ → List ℕ → List (List ℕ)
 run_of from up row = map (λ i. from ∷ (up + i) ∷ []) row
 
--- the numbers from one place of a table up to another, each small enough when it is moved up
-pub record Run (numbers : List ℕ) (begin end up : ℕ) : Type 0 where
-  pub rises : begin ≤ end
-  pub inside : end ≤ length numbers
-  pub small : (i : ℕ) → begin ≤ i → i < end → up + get_or numbers i 0 < 65536
-
 -- of n rows the arrows of the first m, all numbers moved up; where a row is empty, arrows to some numbers behind the n
 unfoldable pub rows_arrows : ℕ → ℕ → List ℕ → (ℕ → List ℕ) → ℕ → List (List ℕ)
 rows_arrows up n targets row m = map (moved up) (for_each (λ v. or_else (map (λ j. n + j) targets) (row v)) out_of m)

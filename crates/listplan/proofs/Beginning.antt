@@ -1,20 +1,22 @@
 -- What the tables need of a sound graph and an order; and the beginning, with nothing placed. Assumes nothing.
-use mathlib.Core.Path.{◌≡◌}
+use mathlib.Core.Path.{◌≡◌, refl, ap}
 use mathlib.Core.Logic.{by_cases}
 use mathlib.Core.List.{List}
-use Prim.Native.Nat.{ℕ, ◌+◌, ◌-◌, ◌<◌}
+use Rattle.std.specs.Prelude.{None}
+use Prim.Native.Nat.{ℕ, zero, suc, ◌-◌, ◌<◌}
 use native.Mathlib.Omega.{arith}
 use native.Mathlib.Decide.{dec_le}
 use lib.ListN.{length, get_or, replicate, length-replicate, get_or-replicate}
 use Rattle.terms.specs.Graphs.{from_of, to_of}
+use Rattle.terms.specs.Plans.{not_placed, processor_of, start_of}
 use Rattle.terms.specs.ListRule.{IsOrder, begin}
+use Rattle.terms.specs.declared.Entry.{Entry}
 use Rattle.theory.specs.Sound.{SoundGraph}
 use Rattle.theory.proofs.Stores.{read_noughts}
 use Rattle.theory.proofs.Counting.{count_same, count_none, count_some}
-use Rattle.forms.specs.Forms.{never, item_of}
-use Rattle.forms.proofs.TwoRows.{entries_none}
+use Rattle.forms.specs.Forms.{never}
 use Rattle.listplan.specs.Tables.{Roomy, ArrowsTo, Distinct, Sources, Grouped}
-use Rattle.listplan.specs.Making.{Job, waits, Holding, unended, Making}
+use Rattle.listplan.specs.Making.{Job, waits, Holding, unended, Making, FirstOf}
 use Rattle.listplan.proofs.Following.{Following}
 use Rattle.listplan.proofs.Scans.{none_yet, none_free}
 
@@ -32,16 +34,21 @@ distinct g o = record {
   once = o.once;
 }
 
+-- a plan with nothing placed
+all_blank : (n i : ℕ) → get_or (replicate n not_placed) i not_placed ≡ not_placed
+all_blank zero i = refl
+all_blank (suc n) zero = refl
+all_blank (suc n) (suc i) = all_blank n i
+
 module _ {times : List ℕ} {arrows : List (List ℕ)} {order : List ℕ} {M : ℕ} {first next rank : List ℕ} (job : Job times arrows order M first next rank) where
-  pub nothing_placed : {L R P S : List ℕ} → ArrowsTo arrows L (length arrows) → Sources order L R (length order)
-      → P ≡ replicate (length times) 0 → S ≡ replicate (length times) 0
-      → Making times arrows order M 0 0 L R (replicate 17 never) (replicate 17 0) P S
-  unfolding item_of
-  nothing_placed {L} {R} {P} {S} arrive sources e f = record {
-    sizes = record { long_processors = rw e (length-replicate {A = ℕ} (length times) 0); long_starts = rw f (length-replicate {A = ℕ} (length times) 0) };
+  pub nothing_placed : {L R : List ℕ} {P : List Entry} → ArrowsTo arrows L (length arrows) → Sources order L R (length order)
+      → P ≡ replicate (length times) not_placed → Making times arrows order M 0 0 L R (replicate 17 never) (replicate 17 0) P
+  unfolding processor_of start_of
+  nothing_placed {L} {R} {P} arrive sources e = record {
+    whole = rw e (length-replicate {A = Entry} (length times) not_placed);
     early = omega arith;
-    begun = λ j s. rw f (omega (arith, read_noughts (length times) (j - 1)));
-    made = rw (e, f) (rw (entries_none (length times)) begin);
+    begun = λ j s. omega (arith, ap (λ (x : Entry). x.start) (blank j));
+    made = rw e begin;
     holders = record {
       long_until = length-replicate {A = ℕ} 17 never;
       long_who = length-replicate {A = ℕ} 17 0;
@@ -68,8 +75,11 @@ module _ {times : List ℕ} {arrows : List (List ℕ)} {order : List ℕ} {M : �
     blocked = λ a l h. nought (to_of arrows a);
   }
     where
-      nought : (j : ℕ) → get_or P (j - 1) 0 ≡ 0
-      nought j = rw e (read_noughts (length times) (j - 1))
+      blank : (j : ℕ) → get_or P (j - 1) not_placed ≡ not_placed
+      blank j = rw e (all_blank (length times) (j - 1))
+
+      nought : (j : ℕ) → (get_or P (j - 1) not_placed).processor.0 ≡ 0
+      nought j = ap (λ (x : Entry). x.processor.0) (blank j)
 
       all : (a : ℕ) → Holding arrows P (replicate 17 0) 0 a
       all a = unended (waits (nought (from_of arrows a)))
@@ -77,21 +87,18 @@ module _ {times : List ℕ} {arrows : List (List ℕ)} {order : List ℕ} {M : �
       small : (y : ℕ) → y < length order → get_or order y 0 < 257
       small y l = omega (arith, (job.is_order.each y l).high, job.graph.count.high)
 
-  pub begins : {L R G P S : List ℕ} → Making times arrows order M 0 0 L R (replicate 17 never) (replicate 17 0) P S → Grouped R G
-      → Following times arrows order M 0 0 L R G (replicate 17 never) (replicate 17 0) P S (M + 1) 1 0
+  pub begins : {L R G : List ℕ} {P : List Entry} → Making times arrows order M 0 0 L R (replicate 17 never) (replicate 17 0) P → Grouped R G
+      → Following times arrows order M 0 0 L R G (replicate 17 never) (replicate 17 0) P None 1 0
+  unfolding FirstOf
   begins mk g = record {
     making = mk;
     grouped = g;
     unmarked = none_yet;
-    due_one = omega arith;
     first_due = record {
-      before = record {
-        within = omega arith;
-        none = λ k l d.
-            let e : ◌≡◌ {A = ℕ} (get_or (replicate 17 never) k 0) never = get_or-replicate 17 k never 0 (omega (arith, job.within.high)) in
-            omega (arith, d.by);
-      };
-      here = λ l. absurd (omega arith);
+      within = omega arith;
+      none = λ k l d.
+          let e : ◌≡◌ {A = ℕ} (get_or (replicate 17 never) k 0) never = get_or-replicate 17 k never 0 (omega (arith, job.within.high)) in
+          omega (arith, d.by);
     };
     free_one = omega arith;
     busy = none_free (omega arith);

@@ -7,6 +7,7 @@ use native.Mathlib.Omega.{arith}
 use native.Mathlib.Decide.{dec_le, dec_lt, ℕ_discrete}
 use lib.ListN.{length, get_or, set, length-set}
 use Rattle.terms.specs.Graphs.{IsSubtask, from_of, to_of}
+use Rattle.terms.specs.declared.Entry.{Entry}
 use Rattle.theory.specs.First.{NoneBelow}
 use Rattle.theory.specs.Counting.{Count}
 use Rattle.theory.proofs.Stores.{read_set}
@@ -28,7 +29,7 @@ counted_off {arrows} {rank} {L} {R} {G} {R'} {G'} {a} {j} {x} e f m lower kept =
     rw e (record { fewer = refl; marked = rw f' at m'; lower = λ z. omega (arith, lower (omega arith), f'); kept = λ z. kept (omega arith) })
 
 module _ {times : List ℕ} {arrows : List (List ℕ)} {order : List ℕ} {M : ℕ} {first next rank : List ℕ} (job : Job times arrows order M first next rank)
-    {t c : ℕ} {L R U W P S : List ℕ} (mk : Making times arrows order M t c L R U W P S) (some : c ≢ 0) where
+    {t c : ℕ} {L R U W : List ℕ} {P : List Entry} (mk : Making times arrows order M t c L R U W P) (some : c ≢ 0) where
   -- where the arrow goes to, and the place of that one in the order
   abbrev j : ℕ
   j = to_of arrows (c - 1)
@@ -157,10 +158,10 @@ module _ {times : List ℕ} {arrows : List (List ℕ)} {order : List ℕ} {M : �
                 (λ d z. read_set (λ k. k ≢ 1) R x 1 y in_ready (λ e. absurd (d (ap (λ (k : ℕ). k / 16) e))) (λ _. g.none y l z));
           }
 
-      pub counted : Making times arrows order M t c' L' R' U W P S × Grouped R' G' × NoneBelow (IsMarked R') (length order) low'
+      pub counted : Making times arrows order M t c' L' R' U W P × Grouped R' G' × NoneBelow (IsMarked R') (length order) low'
       counted = (
         record {
-          sizes = mk.sizes;
+          whole = mk.whole;
           early = mk.early;
           begun = mk.begun;
           made = mk.made;

@@ -2,28 +2,32 @@
 use mathlib.Core.Path.{◌≡◌, refl, sym, ap, ◌∙◌}
 use mathlib.Core.Logic.{◌≢◌, by_cases}
 use mathlib.Core.List.{List}
+use Rattle.std.specs.Prelude.{Option}
 use Prim.Native.Nat.{ℕ, ◌+◌, ◌≤◌, ◌<◌}
 use native.Mathlib.Omega.{arith}
 use native.Mathlib.Decide.{dec_le, dec_lt, ℕ_discrete}
 use lib.ListN.{length, get_or, set, length-set}
 use Rattle.terms.specs.Graphs.{Among, IsSubtask, from_of}
+use Rattle.terms.specs.Plans.{processor_of, end_of}
+use Rattle.terms.specs.declared.Entry.{Entry}
+use Rattle.terms.specs.declared.Processor.{Processor}
 use Rattle.theory.specs.First.{NoneBelow, FirstBelow}
 use Rattle.theory.proofs.Stores.{read_set}
 use Rattle.theory.proofs.Counting.{count_same}
-use Rattle.forms.specs.Forms.{never, item_of, finish_of}
+use Rattle.forms.specs.Forms.{never}
 use Rattle.graph.specs.Chains.{Last}
 use Rattle.listplan.specs.Tables.{Grouped}
-use Rattle.listplan.specs.Making.{Job, Unended, waits, runs, Holding, unended, uncounted, IsOn, Making, IsMarked, IsDue}
+use Rattle.listplan.specs.Making.{Job, Unended, waits, runs, Holding, unended, uncounted, IsOn, Making, IsMarked, IsDue, FirstOf}
 use Rattle.listplan.proofs.Following.{Following}
 use Rattle.listplan.proofs.Scans.{none_free}
 
 -- the one on processor p has its end by t
 module _ {times : List ℕ} {arrows : List (List ℕ)} {order : List ℕ} {M : ℕ} {first next rank : List ℕ} (job : Job times arrows order M first next rank)
-    {t : ℕ} {L R U W P S : List ℕ} (mk : Making times arrows order M t 0 L R U W P S) {p : ℕ} (pm : Among 1 M p) (due : get_or U p 0 ≤ t) where
+    {t : ℕ} {L R U W : List ℕ} {P : List Entry} (mk : Making times arrows order M t 0 L R U W P) {p : ℕ} (pm : Among 1 M p) (due : get_or U p 0 ≤ t) where
   pub somebody : 1 ≤ get_or W p 0
   somebody = by_cases (dec_le 1 (get_or W p 0)) (λ l. l) (λ l. absurd (omega (arith, mk.holders.nobody p pm (omega arith), mk.early, job.work)))
 
-  holder : IsOn times P S U p (get_or W p 0)
+  holder : IsOn times P U p (get_or W p 0)
   holder = mk.holders.holder p pm somebody
 
   pub who_small : get_or W p 0 < 257
@@ -45,18 +49,18 @@ module _ {times : List ℕ} {arrows : List (List ℕ)} {order : List ℕ} {M : �
   unended_back : (k : ℕ) → IsSubtask times k → Unended P W' k → Unended P W k
   unended_back k r (waits z) = waits z
   unended_back k r (runs z) =
-      runs (read_set (λ y. y ≡ k → get_or W (item_of P k) 0 ≡ k) W p 0 (item_of P k) in_who (λ _ e. absurd (omega (arith, r.low))) (λ _ e. e) z)
+      runs (read_set (λ y. y ≡ k → get_or W (processor_of P k) 0 ≡ k) W p 0 (processor_of P k) in_who (λ _ e. absurd (omega (arith, r.low))) (λ _ e. e) z)
 
   unended_keep : (k : ℕ) → k ≢ get_or W p 0 → Unended P W k → Unended P W' k
   unended_keep k h (waits z) = waits z
-  unended_keep k h (runs z) = runs (read_set (λ y. y ≡ k) W p 0 (item_of P k) in_who (λ e. absurd (h (sym z ∙ ap (λ (y : ℕ). get_or W y 0) e))) (λ _. z))
+  unended_keep k h (runs z) = runs (read_set (λ y. y ≡ k) W p 0 (processor_of P k) in_who (λ e. absurd (h (sym z ∙ ap (λ (y : ℕ). get_or W y 0) e))) (λ _. z))
 
   there : Unended P W (get_or W p 0)
   there = runs (ap (λ (y : ℕ). get_or W y 0) holder.on)
 
   gone : ¬ Unended P W' (get_or W p 0)
   gone (waits z) = omega (arith, holder.on, pm.low)
-  gone (runs z) = read_set (λ y. y ≢ get_or W p 0) W p 0 (item_of P (get_or W p 0)) in_who (λ _ e. omega (arith, somebody)) (λ h. absurd (h holder.on)) z
+  gone (runs z) = read_set (λ y. y ≢ get_or W p 0) W p 0 (processor_of P (get_or W p 0)) in_who (λ _ e. omega (arith, somebody)) (λ h. absurd (h holder.on)) z
 
   -- the next one with an end by t is further up
   pub due_after : FirstBelow (IsDue U t) (M + 1) p → NoneBelow (IsDue U' t) (M + 1) (p + 1)
@@ -85,9 +89,9 @@ module _ {times : List ℕ} {arrows : List (List ℕ)} {order : List ℕ} {M : �
     back a l (unended u) = unended (unended_back (from_of arrows a) (job.graph.named a l).0 u)
     back a l (uncounted m e) = unended (rw (e ∙ last.here (omega arith)) there)
 
-    making : Making times arrows order M t c L R U' W' P S
+    making : Making times arrows order M t c L R U' W' P
     making = record {
-      sizes = mk.sizes;
+      whole = mk.whole;
       early = mk.early;
       begun = mk.begun;
       made = mk.made;
@@ -97,14 +101,14 @@ module _ {times : List ℕ} {arrows : List (List ℕ)} {order : List ℕ} {M : �
         nobody = λ k a. read_set (λ y. y ≡ 0 → get_or U' k 0 ≡ never) W p 0 k in_who
             (λ e _. read_set (λ y. y ≡ never) U p never k in_until (λ _. refl) (λ h. absurd (h e)))
             (λ h z. read_set (λ y. y ≡ never) U p never k in_until (λ _. refl) (λ _. mk.holders.nobody k a z));
-        holder = λ k a. read_set (λ y. 1 ≤ y → IsOn times P S U' k y) W p 0 k in_who
+        holder = λ k a. read_set (λ y. 1 ≤ y → IsOn times P U' k y) W p 0 k in_who
             (λ _ b. absurd (omega arith))
             (λ h b.
             let r = mk.holders.holder k a b in
             record {
               is_subtask = r.is_subtask;
               on = r.on;
-              ends = read_set (λ y. finish_of times S (get_or W k 0) ≡ y) U p never k in_until (λ e. absurd (h e)) (λ _. r.ends);
+              ends = read_set (λ y. end_of times P (get_or W k 0) ≡ y) U p never k in_until (λ e. absurd (h e)) (λ _. r.ends);
             });
         ended = λ k r h. by_cases (ℕ_discrete k (get_or W p 0))
             (λ e. rw e (omega (arith, holder.ends)))
@@ -123,6 +127,6 @@ module _ {times : List ℕ} {arrows : List (List ℕ)} {order : List ℕ} {M : �
       blocked = λ a l h. mk.blocked a l (back a l h);
     }
 
-    pub ended : {G : List ℕ} {due' low : ℕ} → Grouped R G → NoneBelow (IsMarked R) (length order) low → 1 ≤ due' → FirstBelow (IsDue U' t) (M + 1) due'
-        → Following times arrows order M t c L R G U' W' P S due' 1 low
-    ended g u o d = record { making = making; grouped = g; unmarked = u; due_one = o; first_due = d; free_one = omega arith; busy = none_free (omega arith) }
+    pub ended : {G : List ℕ} {due' : Option Processor} {low : ℕ} → Grouped R G → NoneBelow (IsMarked R) (length order) low → FirstOf M (IsDue U' t) due'
+        → Following times arrows order M t c L R G U' W' P due' 1 low
+    ended g u d = record { making = making; grouped = g; unmarked = u; first_due = d; free_one = omega arith; busy = none_free (omega arith) }

@@ -1,17 +1,19 @@
 -- What holds whenever the rule is followed a step further: the invariant of the loop that makes the plan. Assumes nothing.
 use mathlib.Core.List.{List}
+use Rattle.std.specs.Prelude.{Option}
 use Prim.Native.Nat.{ℕ, ◌+◌, ◌≤◌}
 use lib.ListN.{length}
-use Rattle.theory.specs.First.{NoneBelow, FirstBelow}
+use Rattle.terms.specs.declared.Entry.{Entry}
+use Rattle.terms.specs.declared.Processor.{Processor}
+use Rattle.theory.specs.First.{NoneBelow}
 use Rattle.listplan.specs.Tables.{Grouped}
-use Rattle.listplan.specs.Making.{Making, IsMarked, IsDue, IsFree}
+use Rattle.listplan.specs.Making.{Making, IsMarked, IsDue, IsFree, FirstOf}
 
--- processor `due` is the first with an end by t, none before `free` is free, and no place of the order below `low` is marked
-pub record Following (times : List ℕ) (arrows : List (List ℕ)) (order : List ℕ) (M t c : ℕ) (L R G U W P S : List ℕ) (due free low : ℕ) : Type 0 where
-  pub making : Making times arrows order M t c L R U W P S
+-- `due` is the first processor with an end by t, none before `free` is free, and no place of the order below `low` is marked
+pub record Following (times : List ℕ) (arrows : List (List ℕ)) (order : List ℕ) (M t c : ℕ) (L R G U W : List ℕ) (P : List Entry) (due : Option Processor) (free low : ℕ) : Type 0 where
+  pub making : Making times arrows order M t c L R U W P
   pub grouped : Grouped R G
   pub unmarked : NoneBelow (IsMarked R) (length order) low
-  pub due_one : 1 ≤ due
-  pub first_due : FirstBelow (IsDue U t) (M + 1) due
+  pub first_due : FirstOf M (IsDue U t) due
   pub free_one : 1 ≤ free
   pub busy : NoneBelow (IsFree W) (M + 1) free

@@ -10,5 +10,4 @@ pub mod CountingOff
 pub mod ClockMoves
 pub mod Beginning
 pub mod Steps
-pub mod Drafted
-pub mod OneDraft
+pub mod Listed

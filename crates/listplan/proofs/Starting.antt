@@ -2,36 +2,30 @@
 use mathlib.Core.Path.{◌≡◌, refl, sym, ap, ◌∙◌}
 use mathlib.Core.Logic.{◌≢◌, by_cases}
 use mathlib.Core.List.{List}
-use Prim.Native.Nat.{ℕ, ◌+◌, ◌-◌, ◌≤◌, ◌<◌}
+use Rattle.std.specs.Prelude.{Option, None}
+use Prim.Native.Nat.{ℕ, ◌+◌, ◌≤◌, ◌<◌}
 use native.Mathlib.Omega.{arith}
 use native.Mathlib.Decide.{dec_lt, ℕ_discrete}
 use lib.ListN.{length, get_or, set, length-set}
-use lib.Seq.{get_or-set_same, get_or-set_other}
 use Rattle.terms.specs.Graphs.{Among, IsSubtask, time_of, from_of, to_of}
-use Rattle.terms.specs.ListRule.{Goes, ByRule, goes}
+use Rattle.terms.specs.Plans.{processor_of, start_of, end_of}
+use Rattle.terms.specs.ListRule.{put, Goes, ByRule, goes}
+use Rattle.terms.specs.declared.Entry.{Entry}
+use Rattle.terms.specs.declared.Processor.{Processor}
 use Rattle.theory.specs.First.{FirstBelow}
 use Rattle.theory.proofs.Stores.{read_set}
 use Rattle.theory.proofs.Counting.{count_same}
-use Rattle.forms.specs.Forms.{never, entries, item_of, finish_of}
-use Rattle.forms.proofs.TwoRows.{entries_put}
+use Rattle.theory.proofs.Placing.{put_length, put_processor, put_start, keep_processor, keep_start}
+use Rattle.forms.specs.Forms.{never}
 use Rattle.listplan.specs.Tables.{Grouped}
-use Rattle.listplan.specs.Making.{Job, Unended, waits, runs, Holding, unended, uncounted, Open, IsOn, Holders, Lefts, Marks, Making, IsMarked, IsFree}
+use Rattle.listplan.specs.Making.{Job, Unended, waits, runs, Holding, unended, uncounted, Open, IsOn, Holders, Lefts, Marks, Making, IsMarked, IsFree, FirstOf}
 use Rattle.listplan.proofs.Following.{Following}
 use Rattle.listplan.proofs.Scans.{unmarked_low}
-use Rattle.listplan.proofs.Ready.{same_length, open_ready, is_free, is_busy, ready_open}
-
--- what a row holds for a subtask after a store
-item_same : (l : List ℕ) (j a : ℕ) → 1 ≤ j → j ≤ length l → item_of (set l (j - 1) a) j ≡ a
-unfolding item_of
-item_same l j a x y = get_or-set_same l (j - 1) a 0 (omega arith)
-
-item_other : (l : List ℕ) (j a k : ℕ) → 1 ≤ j → 1 ≤ k → k ≢ j → item_of (set l (j - 1) a) k ≡ item_of l k
-unfolding item_of
-item_other l j a k x y h = get_or-set_other l (j - 1) (k - 1) a 0 (omega arith)
+use Rattle.listplan.proofs.Ready.{open_ready, is_free, is_busy, ready_open}
 
 -- subtask j, at place x of the order, starts on processor p
 module _ {times : List ℕ} {arrows : List (List ℕ)} {order : List ℕ} {M : ℕ} {first next rank : List ℕ} (job : Job times arrows order M first next rank)
-    {t : ℕ} {L R U W P S : List ℕ} (mk : Making times arrows order M t 0 L R U W P S) (later : (p : ℕ) → Among 1 M p → t < get_or U p 0)
+    {t : ℕ} {L R U W : List ℕ} {P : List Entry} (mk : Making times arrows order M t 0 L R U W P) (later : (p : ℕ) → Among 1 M p → t < get_or U p 0)
     {x p j : ℕ} (fm : FirstBelow (IsMarked R) (length order) x) (ff : FirstBelow (IsFree W) (M + 1) p) (inside : x < length order) (pm : Among 1 M p)
     (stands : j ≡ get_or order x 0) where
   s : IsSubtask times j
@@ -43,11 +37,8 @@ module _ {times : List ℕ} {arrows : List (List ℕ)} {order : List ℕ} {M : �
   pub nobody : IsFree W p
   nobody = ff.here (omega (arith, pm.high))
 
-  abbrev P' : List ℕ
-  P' = set P (j - 1) p
-
-  abbrev S' : List ℕ
-  S' = set S (j - 1) t
+  abbrev P' : List Entry
+  P' = put P j p t
 
   abbrev U' : List ℕ
   U' = set U p (t + time_of times j)
@@ -67,36 +58,39 @@ module _ {times : List ℕ} {arrows : List (List ℕ)} {order : List ℕ} {M : �
   in_ready : x < length R
   in_ready = omega (arith, mk.marks.long, job.is_order.whole, job.graph.count.high)
 
-  processor_new : item_of P' j ≡ p
-  processor_new = item_same P j p s.low (omega (arith, s.high, mk.sizes.long_processors))
+  in_plan : j ≤ length P
+  in_plan = omega (arith, s.high, mk.whole)
 
-  processor_old : (k : ℕ) → IsSubtask times k → k ≢ j → item_of P' k ≡ item_of P k
-  processor_old k r h = item_other P j p k s.low r.low h
+  processor_new : processor_of P' j ≡ p
+  processor_new = put_processor P j p t s.low in_plan
 
-  start_new : item_of S' j ≡ t
-  start_new = item_same S j t s.low (omega (arith, s.high, mk.sizes.long_starts))
+  processor_old : (k : ℕ) → IsSubtask times k → k ≢ j → processor_of P' k ≡ processor_of P k
+  processor_old k r h = keep_processor P j p t k s.low r.low h
 
-  start_old : (k : ℕ) → IsSubtask times k → k ≢ j → item_of S' k ≡ item_of S k
-  start_old k r h = item_other S j t k s.low r.low h
+  start_new : start_of P' j ≡ t
+  start_new = put_start P j p t s.low in_plan
 
-  end_new : finish_of times S' j ≡ t + time_of times j
-  unfolding finish_of
+  start_old : (k : ℕ) → IsSubtask times k → k ≢ j → start_of P' k ≡ start_of P k
+  start_old k r h = keep_start P j p t k s.low r.low h
+
+  end_new : end_of times P' j ≡ t + time_of times j
+  unfolding end_of
   end_new = omega (arith, start_new)
 
-  end_old : (k : ℕ) → IsSubtask times k → k ≢ j → finish_of times S' k ≡ finish_of times S k
-  unfolding finish_of
+  end_old : (k : ℕ) → IsSubtask times k → k ≢ j → end_of times P' k ≡ end_of times P k
+  unfolding end_of
   end_old k r h = omega (arith, start_old k r h)
 
   -- j is on its processor
   there : Unended P' W' j
-  there = runs (read_set (λ y. y ≡ j) W p j (item_of P' j) in_who (λ _. refl) (λ n. absurd (n processor_new)))
+  there = runs (read_set (λ y. y ≡ j) W p j (processor_of P' j) in_who (λ _. refl) (λ n. absurd (n processor_new)))
 
   unended_keep : (k : ℕ) → IsSubtask times k → Unended P W k → Unended P' W' k
   unended_keep k r u = by_cases (ℕ_discrete k j) (λ e. rw e there) (λ h. go h u)
     where
       go : k ≢ j → Unended P W k → Unended P' W' k
       go h (waits z) = waits (processor_old k r h ∙ z)
-      go h (runs z) = runs (rw (processor_old k r h) (read_set (λ y. y ≡ k) W p j (item_of P k) in_who
+      go h (runs z) = runs (rw (processor_old k r h) (read_set (λ y. y ≡ k) W p j (processor_of P k) in_who
           (λ e. let y : get_or W p 0 ≡ k = rw e at z in absurd (omega (arith, nobody.nobody, r.low)))
           (λ _. z)))
 
@@ -106,8 +100,8 @@ module _ {times : List ℕ} {arrows : List (List ℕ)} {order : List ℕ} {M : �
       go : k ≢ j → Unended P' W' k → Unended P W k
       go h (waits z) = waits (sym (processor_old k r h) ∙ z)
       go h (runs z) =
-          let z' : get_or W' (item_of P k) 0 ≡ k = rw (processor_old k r h) at z in
-          runs (read_set (λ y. y ≡ k → get_or W (item_of P k) 0 ≡ k) W p j (item_of P k) in_who (λ _ e. absurd (h (sym e))) (λ _ e. e) z')
+          let z' : get_or W' (processor_of P k) 0 ≡ k = rw (processor_old k r h) at z in
+          runs (read_set (λ y. y ≡ k → get_or W (processor_of P k) 0 ≡ k) W p j (processor_of P k) in_who (λ _ e. absurd (h (sym e))) (λ _ e. e) z')
 
   keep : (a : ℕ) → a < length arrows → Holding arrows P W 0 a → Holding arrows P' W' 0 a
   keep a l (unended u) = unended (unended_keep (from_of arrows a) (job.graph.named a l).0 u)
@@ -127,7 +121,7 @@ module _ {times : List ℕ} {arrows : List (List ℕ)} {order : List ℕ} {M : �
   other : (y : ℕ) → y < length order → y ≢ x → get_or order y 0 ≢ j
   other y l h e = by_cases (dec_lt y x) (λ m. job.is_order.once y x m inside (e ∙ stands)) (λ m. job.is_order.once x y (omega arith) l (sym (e ∙ stands)))
 
-  step : Goes times arrows order M (entries P S) t j p
+  step : Goes times arrows order M P t j p
   step = record {
     place = x;
     inside = inside;
@@ -141,30 +135,30 @@ module _ {times : List ℕ} {arrows : List (List ℕ)} {order : List ℕ} {M : �
     lowest = λ q a b. is_busy job mk later q a (ff.before.none q b);
   }
 
-  made : ByRule times arrows order M t (entries P' S')
-  made = rw (entries_put P S j p t (same_length job mk)) (goes mk.made j p step)
+  made : ByRule times arrows order M t P'
+  made = goes mk.made j p step
 
-  holders : Holders times M t P' S' U' W'
+  holders : Holders times M t P' U' W'
   holders = record {
     long_until = length-set U p _ ∙ mk.holders.long_until;
     long_who = length-set W p _ ∙ mk.holders.long_who;
     nobody = λ q a. read_set (λ y. y ≡ 0 → get_or U' q 0 ≡ never) W p j q in_who
         (λ _ z. absurd (omega (arith, s.low)))
         (λ h z. read_set (λ y. y ≡ never) U p (t + time_of times j) q in_until (λ e. absurd (h e)) (λ _. mk.holders.nobody q a z));
-    holder = λ q a. read_set (λ k. 1 ≤ k → IsOn times P' S' U' q k) W p j q in_who
+    holder = λ q a. read_set (λ k. 1 ≤ k → IsOn times P' U' q k) W p j q in_who
         (λ e _. record {
           is_subtask = s;
           on = processor_new ∙ sym e;
-          ends = read_set (λ y. finish_of times S' j ≡ y) U p (t + time_of times j) q in_until (λ _. end_new) (λ h. absurd (h e));
+          ends = read_set (λ y. end_of times P' j ≡ y) U p (t + time_of times j) q in_until (λ _. end_new) (λ h. absurd (h e));
         })
         (λ h b.
         let o = mk.holders.holder q a b in
         let k = get_or W q 0 in
-        let d : k ≢ j = λ e. let z : item_of P k ≡ item_of P j = ap (item_of P) e in absurd (omega (arith, o.on, a.low, opened.unplaced)) in
+        let d : k ≢ j = λ e. let z : processor_of P k ≡ processor_of P j = ap (processor_of P) e in absurd (omega (arith, o.on, a.low, opened.unplaced)) in
         record {
           is_subtask = o.is_subtask;
           on = processor_old k o.is_subtask d ∙ o.on;
-          ends = end_old k o.is_subtask d ∙ read_set (λ y. finish_of times S k ≡ y) U p (t + time_of times j) q in_until (λ e. absurd (h e)) (λ _. o.ends);
+          ends = end_old k o.is_subtask d ∙ read_set (λ y. end_of times P k ≡ y) U p (t + time_of times j) q in_until (λ e. absurd (h e)) (λ _. o.ends);
         });
     ended = λ k r h.
         let d : k ≢ j = λ e. h (rw e there) in
@@ -185,15 +179,16 @@ module _ {times : List ℕ} {arrows : List (List ℕ)} {order : List ℕ} {M : �
         (λ h e. open_keep (get_or order y 0) (job.is_order.each y l) (other y l h) (mk.marks.opens y l e));
     marked = λ y l o. read_set (λ z. z ≡ 1) R x 0 y in_ready
         (λ e.
-        let z : item_of P' (get_or order y 0) ≡ item_of P' j = ap (item_of P') (ap (λ (k : ℕ). get_or order k 0) e ∙ sym stands) in
+        let z : processor_of P' (get_or order y 0) ≡ processor_of P' j = ap (processor_of P') (ap (λ (k : ℕ). get_or order k 0) e ∙ sym stands) in
         absurd (omega (arith, o.unplaced, processor_new, pm.low)))
         (λ h. mk.marks.marked y l (open_back (get_or order y 0) (job.is_order.each y l) (other y l h) o));
   }
 
-  pub started : {G : List ℕ} {due : ℕ} → Grouped R' G → due ≡ M + 1 → Following times arrows order M t 0 L R' G U' W' P' S' due p (x + 1)
+  pub started : {G : List ℕ} {due : Option Processor} → Grouped R' G → due ≡ None → Following times arrows order M t 0 L R' G U' W' P' due p (x + 1)
+  unfolding FirstOf
   started g none = record {
     making = record {
-      sizes = record { long_processors = length-set P (j - 1) _ ∙ mk.sizes.long_processors; long_starts = length-set S (j - 1) _ ∙ mk.sizes.long_starts };
+      whole = put_length P j p t ∙ mk.whole;
       early = mk.early;
       begun = λ k r. by_cases (ℕ_discrete k j) (λ e. rw e (omega (arith, start_new))) (λ h. omega (arith, start_old k r h, mk.begun k r));
       made = made;
@@ -208,17 +203,13 @@ module _ {times : List ℕ} {arrows : List (List ℕ)} {order : List ℕ} {M : �
     };
     grouped = g;
     unmarked = unmarked_low R in_ready inside fm.before;
-    due_one = omega arith;
-    first_due = record {
-      before = record {
-        within = omega arith;
-        none = λ k l d. read_set (λ y. ¬ (y ≤ t)) U p (t + time_of times j) k in_until
-            (λ _. omega (arith, job.graph.positive j s))
-            (λ _. omega (arith, later k (record { low = d.one; high = omega arith })))
-            d.by;
-      };
-      here = λ l. absurd (omega arith);
-    };
+    first_due = rw none (record {
+      within = omega arith;
+      none = λ k l d. read_set (λ y. ¬ (y ≤ t)) U p (t + time_of times j) k in_until
+          (λ _. omega (arith, job.graph.positive j s))
+          (λ _. omega (arith, later k (record { low = d.one; high = omega arith })))
+          d.by;
+    });
     free_one = pm.low;
     busy = record {
       within = ff.before.within;

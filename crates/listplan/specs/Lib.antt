@@ -1,3 +1,2 @@
 pub mod Tables
 pub mod Making
-pub mod Drafts

@@ -1,16 +1,20 @@
--- A list plan in the making, as its tables have it: `processors` and `starts` hold the processor and start of each subtask; `until` and
--- `who` the end and the number of the subtask on each processor, `never` and 0 where nobody is on it (place 0 is not used); `left` how
--- many arrows hold each subtask back; `ready` a mark for each place of the order whose subtask can go.
-use Rattle.std.specs.Prelude.{◌≡◌, ◌≢◌, List, ℕ, ◌-◌, ◌≤◌, ◌<◌, min, length, get_or, set}
+-- A list plan in the making, as its tables have it: `until` and `who` hold the end and the number of the subtask on each processor, `never` and
+-- 0 where nobody is on it (place 0 is not used); `left` how many arrows hold each subtask back; `ready` a mark for each place of the order whose
+-- subtask can go.
+use Rattle.std.specs.Prelude.{◌≡◌, ◌≢◌, ◌⊎◌, List, Option, Some, None, ℕ, ◌+◌, ◌-◌, ◌≤◌, ◌<◌, min, length, get_or, set}
 use Rattle.terms.specs.Graphs.{Among, IsSubtask, from_of, to_of}
 use Rattle.terms.specs.Paths.{total_work}
+use Rattle.terms.specs.Plans.{processor_of, start_of, end_of}
 use Rattle.terms.specs.ListRule.{IsOrder, ByRule}
+use Rattle.terms.specs.declared.Entry.{Entry}
+use Rattle.terms.specs.declared.Processor.{Processor}
 use Rattle.theory.specs.Sound.{SoundGraph}
-use Rattle.theory.specs.First.{FirstBelow}
+use Rattle.theory.specs.First.{NoneBelow, FirstBelow}
 use Rattle.theory.specs.Counting.{Count}
-use Rattle.forms.specs.Forms.{never, entries, item_of, finish_of}
+use Rattle.forms.specs.Forms.{never}
 use Rattle.graph.specs.Chains.{Chains}
 use Rattle.listplan.specs.Tables.{Ranks, MarkedIf}
+use Rattle.listplan.specs.declared.scan.Start.{Start}
 
 -- what stays the same
 pub record Job (times : List ℕ) (arrows : List (List ℕ)) (order : List ℕ) (M : ℕ) (first next rank : List ℕ) : Type 0 where
@@ -22,67 +26,62 @@ pub record Job (times : List ℕ) (arrows : List (List ℕ)) (order : List ℕ) 
   pub ranks : Ranks order rank (length order)
 
 -- subtask j has not gone, or is still on its processor
-pub data Unended (processors who : List ℕ) (j : ℕ) : Type 0 where
-  waits : item_of processors j ≡ 0 → Unended processors who j
-  runs : get_or who (item_of processors j) 0 ≡ j → Unended processors who j
+pub data Unended (plan : List Entry) (who : List ℕ) (j : ℕ) : Type 0 where
+  waits : processor_of plan j ≡ 0 → Unended plan who j
+  runs : get_or who (processor_of plan j) 0 ≡ j → Unended plan who j
 
 -- The arrow at place a holds its `to` back: its `from` is unended, or has just ended and its arrows are being counted off; c is the position,
 -- counted from 1, of the next of those, and 0 where there are none left.
-pub data Holding (arrows : List (List ℕ)) (processors who : List ℕ) (c a : ℕ) : Type 0 where
-  unended : Unended processors who (from_of arrows a) → Holding arrows processors who c a
-  uncounted : a < c → from_of arrows a ≡ from_of arrows (c - 1) → Holding arrows processors who c a
+pub data Holding (arrows : List (List ℕ)) (plan : List Entry) (who : List ℕ) (c a : ℕ) : Type 0 where
+  unended : Unended plan who (from_of arrows a) → Holding arrows plan who c a
+  uncounted : a < c → from_of arrows a ≡ from_of arrows (c - 1) → Holding arrows plan who c a
 
 -- subtask s has not gone and nothing holds it back
-pub record Open (arrows : List (List ℕ)) (processors who : List ℕ) (c s : ℕ) : Type 0 where
-  pub unplaced : item_of processors s ≡ 0
-  pub served : (a : ℕ) → a < length arrows → to_of arrows a ≡ s → ¬ Holding arrows processors who c a
-
--- the rows have one place for each subtask
-pub record Sizes (times processors starts : List ℕ) : Type 0 where
-  pub long_processors : length processors ≡ length times
-  pub long_starts : length starts ≡ length times
+pub record Open (arrows : List (List ℕ)) (plan : List Entry) (who : List ℕ) (c s : ℕ) : Type 0 where
+  pub unplaced : processor_of plan s ≡ 0
+  pub served : (a : ℕ) → a < length arrows → to_of arrows a ≡ s → ¬ Holding arrows plan who c a
 
 -- subtask j is on processor p, to its end
-pub record IsOn (times processors starts until : List ℕ) (p j : ℕ) : Type 0 where
+pub record IsOn (times : List ℕ) (plan : List Entry) (until : List ℕ) (p j : ℕ) : Type 0 where
   pub is_subtask : IsSubtask times j
-  pub on : item_of processors j ≡ p
-  pub ends : finish_of times starts j ≡ get_or until p 0
+  pub on : processor_of plan j ≡ p
+  pub ends : end_of times plan j ≡ get_or until p 0
 
 -- who is on the processors, and that all others that have gone have ended
-pub record Holders (times : List ℕ) (M t : ℕ) (processors starts until who : List ℕ) : Type 0 where
+pub record Holders (times : List ℕ) (M t : ℕ) (plan : List Entry) (until who : List ℕ) : Type 0 where
   pub long_until : length until ≡ 17
   pub long_who : length who ≡ 17
   pub nobody : (p : ℕ) → Among 1 M p → get_or who p 0 ≡ 0 → get_or until p 0 ≡ never
-  pub holder : (p : ℕ) → Among 1 M p → 1 ≤ get_or who p 0 → IsOn times processors starts until p (get_or who p 0)
-  pub ended : (j : ℕ) → IsSubtask times j → ¬ Unended processors who j → finish_of times starts j ≤ t
+  pub holder : (p : ℕ) → Among 1 M p → 1 ≤ get_or who p 0 → IsOn times plan until p (get_or who p 0)
+  pub ended : (j : ℕ) → IsSubtask times j → ¬ Unended plan who j → end_of times plan j ≤ t
 
 -- how many arrows hold each subtask back
-pub record Lefts (times : List ℕ) (arrows : List (List ℕ)) (c : ℕ) (processors who left : List ℕ) : Type 0 where
+pub record Lefts (times : List ℕ) (arrows : List (List ℕ)) (c : ℕ) (plan : List Entry) (who left : List ℕ) : Type 0 where
   pub long : length left ≡ 257
-  pub count : (s : ℕ) → IsSubtask times s → Count (λ a. (to_of arrows a ≡ s) × Holding arrows processors who c a) (length arrows) (get_or left s 0)
+  pub count : (s : ℕ) → IsSubtask times s → Count (λ a. (to_of arrows a ≡ s) × Holding arrows plan who c a) (length arrows) (get_or left s 0)
 
 -- the places of the order whose subtask is open
-pub record Marks (arrows : List (List ℕ)) (order : List ℕ) (c : ℕ) (processors who ready : List ℕ) : Type 0 where
+pub record Marks (arrows : List (List ℕ)) (order : List ℕ) (c : ℕ) (plan : List Entry) (who ready : List ℕ) : Type 0 where
   pub long : length ready ≡ 256
-  pub opens : (x : ℕ) → x < length order → get_or ready x 0 ≡ 1 → Open arrows processors who c (get_or order x 0)
-  pub marked : (x : ℕ) → x < length order → Open arrows processors who c (get_or order x 0) → get_or ready x 0 ≡ 1
+  pub opens : (x : ℕ) → x < length order → get_or ready x 0 ≡ 1 → Open arrows plan who c (get_or order x 0)
+  pub marked : (x : ℕ) → x < length order → Open arrows plan who c (get_or order x 0) → get_or ready x 0 ≡ 1
 
 -- the arrows that are being counted off come from a subtask that has ended
-pub record Cursor (arrows : List (List ℕ)) (c : ℕ) (processors who : List ℕ) : Type 0 where
+pub record Cursor (arrows : List (List ℕ)) (c : ℕ) (plan : List Entry) (who : List ℕ) : Type 0 where
   pub within : c ≤ length arrows
-  pub ended : 0 < c → ¬ Unended processors who (from_of arrows (c - 1))
+  pub ended : 0 < c → ¬ Unended plan who (from_of arrows (c - 1))
 
 -- what the rule has made with the clock at t, and the tables say so
-pub record Making (times : List ℕ) (arrows : List (List ℕ)) (order : List ℕ) (M t c : ℕ) (left ready until who processors starts : List ℕ) : Type 0 where
-  pub sizes : Sizes times processors starts
+pub record Making (times : List ℕ) (arrows : List (List ℕ)) (order : List ℕ) (M t c : ℕ) (left ready until who : List ℕ) (plan : List Entry) : Type 0 where
+  pub whole : length plan ≡ length times
   pub early : t ≤ total_work times
-  pub begun : (j : ℕ) → IsSubtask times j → item_of starts j ≤ t
-  pub made : ByRule times arrows order M t (entries processors starts)
-  pub holders : Holders times M t processors starts until who
-  pub lefts : Lefts times arrows c processors who left
-  pub marks : Marks arrows order c processors who ready
-  pub cursor : Cursor arrows c processors who
-  pub blocked : (a : ℕ) → a < length arrows → Holding arrows processors who c a → item_of processors (to_of arrows a) ≡ 0
+  pub begun : (j : ℕ) → IsSubtask times j → start_of plan j ≤ t
+  pub made : ByRule times arrows order M t plan
+  pub holders : Holders times M t plan until who
+  pub lefts : Lefts times arrows c plan who left
+  pub marks : Marks arrows order c plan who ready
+  pub cursor : Cursor arrows c plan who
+  pub blocked : (a : ℕ) → a < length arrows → Holding arrows plan who c a → processor_of plan (to_of arrows a) ≡ 0
 
 -- ---- what the scans look for
 
@@ -100,10 +99,20 @@ pub record IsDue (until : List ℕ) (t p : ℕ) : Type 0 where
   pub one : 1 ≤ p
   pub by : get_or until p 0 ≤ t
 
--- where processor p is one of 1..M, x is the first place that is marked; n where there is no such place or no processor
-pub record ToGo (ready : List ℕ) (M p n x : ℕ) : Type 0 where
-  pub first : p ≤ M → FirstBelow (IsMarked ready) n x
-  pub none : M < p → x ≡ n
+-- the first of the processors 1..M that is so, if there is one
+unfoldable pub FirstOf : ℕ → (ℕ → Type 0) → Option Processor → Type 0
+FirstOf M IsSo (Some p) = Among 1 M p.0 × FirstBelow IsSo (M + 1) p.0
+FirstOf M IsSo None = NoneBelow IsSo (M + 1) (M + 1)
+
+-- the first place of the order that is marked, if there is one
+unfoldable pub FirstMark : List ℕ → ℕ → Option ℕ → Type 0
+FirstMark ready n (Some x) = (x < n) × FirstBelow (IsMarked ready) n x
+FirstMark ready n None = NoneBelow (IsMarked ready) n n
+
+-- the first place that is marked with the first processor that is free, if there are both
+unfoldable pub NextStart : List ℕ → ℕ → List ℕ → ℕ → Option Start → Type 0
+NextStart ready n who M (Some start) = FirstMark ready n (Some start.place) × FirstOf M (IsFree who) (Some start.processor)
+NextStart ready n who M None = FirstMark ready n None ⊎ FirstOf M (IsFree who) None
 
 -- processor p is the first with the soonest end
 pub record Soonest (until : List ℕ) (M p : ℕ) : Type 0 where

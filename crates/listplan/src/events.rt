@@ -2,12 +2,13 @@
 ghost use Rattle.std.specs.Prelude.{◌≡◌, ◌+◌, ◌-◌, ◌≤◌, ◌<◌, length, get_or, set};
 ghost use Rattle.terms.specs.Graphs.{IsSubtask, time_of, to_of};
 ghost use Rattle.forms.specs.Forms.{never};
-ghost use Rattle.listplan.specs.Making.{Sizes, CountedOff};
+ghost use Rattle.terms.specs.ListRule.{put};
+ghost use Rattle.listplan.specs.Making.{CountedOff};
 
 use crate::tables::mark;
 use forms::NEVER;
-use inputs::{time_of, to_at, usize_from_u8, usize_from_u16};
-use terms::{Processor, Subtask};
+use inputs::{time_of, to_at};
+use terms::{Entry, Processor, Subtask};
 
 // Counts off the arrow at a place of the row. No place of the order below `low` is marked; the answer is a place below which none is now.
 pub fn count_off(
@@ -31,12 +32,9 @@ pub fn count_off(
     if rest != 0 {
         return low;
     }
-    let x = usize_from_u16(rank[j]);
+    let x = usize::from(rank[j]);
     mark(ready, groups, x, rest);
-    if low < x {
-        return low;
-    }
-    x
+    low.min(x)
 }
 
 // The subtask on a processor ends and leaves it. The answer is the position of the last arrow from it, and 0 where there is none.
@@ -51,18 +49,17 @@ pub fn end_on(
     ensures value { result ≡ get_or first.now (get_or who.old processor.0 0) 0 }
     ensures until_after { (until.new ≡ set until.old processor.0 never) × (who.new ≡ set who.old processor.0 0) }
 {
-    let p = usize_from_u8(processor.0);
-    let j = usize_from_u16(who[p]);
+    let p = usize::from(processor.0);
+    let j = usize::from(who[p]);
     who[p] = 0;
     until[p] = NEVER;
-    usize_from_u16(first[j])
+    usize::from(first[j])
 }
 
 // The subtask starts on a processor at t.
 pub fn start_on(
     times: &[u16],
-    processors: &mut [u8],
-    starts: &mut [u32],
+    plan: &mut [Entry],
     until: &mut [u32; 17],
     who: &mut [u16; 17],
     subtask: Subtask,
@@ -70,16 +67,16 @@ pub fn start_on(
     t: u32,
 )
     requires subtask { IsSubtask times.now subtask.0 × (length times.now ≤ 256) × (processor.0 < 17) × (t ≤ 16776960) }
-    requires sizes { Sizes times.now processors.old starts.old × (length until.old ≡ 17) × (length who.old ≡ 17) }
-    ensures processors_after { processors.new ≡ set processors.old (subtask.0 - 1) processor.0 }
-    ensures starts_after { starts.new ≡ set starts.old (subtask.0 - 1) t }
+    requires sizes { (length plan.old ≡ length times.now) × (length until.old ≡ 17) × (length who.old ≡ 17) }
+    ensures plan_after { plan.new ≡ put plan.old subtask.0 processor.0 t }
     ensures until_after { until.new ≡ set until.old processor.0 (t + time_of times.now subtask.0) }
     ensures who_after { who.new ≡ set who.old processor.0 subtask.0 }
 {
-    let j = subtask.0;
-    let p = usize_from_u8(processor.0);
-    processors[j - 1] = processor.0;
-    starts[j - 1] = t;
+    let p = usize::from(processor.0);
+    plan[subtask.0 - 1] = Entry {
+        processor,
+        start: t,
+    };
     until[p] = t + time_of(times, subtask);
-    who[p] = j as u16;
+    who[p] = subtask.0 as u16;
 }

@@ -4,7 +4,7 @@ ghost use Rattle.terms.specs.Graphs.{from_of};
 ghost use Rattle.graph.specs.Chains.{Chains};
 ghost use Rattle.listplan.specs.Tables.{Roomy, ArrowsTo, Distinct, Ranks, Grouped, MarkedIf, Sources};
 
-use inputs::{from_at, subtask_at, to_at};
+use inputs::{from_at, to_at};
 
 // For each subtask the chain of the arrows from it, the latest first: `first` holds the position of that one, `next` of the one before
 // it. And how many arrows go to each subtask.
@@ -19,14 +19,12 @@ pub fn chain_arrows(
     ensures chains { Chains (from_of arrows.now) first.new next.new (length arrows.now) }
     ensures arrows_to { ArrowsTo arrows.now left.new (length arrows.now) }
 {
-    let mut i: usize = 0;
-    while i < arrows.len() {
+    for i in 0..arrows.len() {
         let u = from_at(arrows, i).0;
         let v = to_at(arrows, i).0;
         next[i] = first[u];
         first[u] = (i + 1) as u16;
         left[v] += 1;
-        i += 1;
     }
 }
 
@@ -56,11 +54,9 @@ pub fn rank_subtasks(
     ensures sources { Sources order.now left.now ready.new (length order.now) }
     ensures grouped { Grouped ready.new groups.new }
 {
-    let mut x: usize = 0;
-    while x < order.len() {
-        let j = subtask_at(order, x).0;
+    for (x, number) in order.iter().enumerate() {
+        let j = usize::from(*number);
         rank[j] = x as u16;
         mark(ready, groups, x, left[j]);
-        x += 1;
     }
 }

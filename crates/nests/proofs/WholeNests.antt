@@ -1,17 +1,17 @@
 -- From a walk over the whole row to the figures of the nest, or to 32. Assumes nothing.
-use mathlib.Core.Path.{◌≡◌, refl, sym, ap, ap₂, ◌∙◌}
+use mathlib.Core.Path.{refl, sym, ap, ap₂, ◌∙◌}
 use mathlib.Core.List.{List, [], ◌∷◌, append-nil}
 use Prim.Native.Nat.{ℕ, ◌≤◌, ◌<◌}
 use native.Mathlib.Omega.{arith}
 use lib.ListN.{length}
-use Rattle.terms.specs.Rows.{refusal_of}
+use Rattle.std.specs.Prelude.{Ok, Err, Some, None}
 use Rattle.terms.specs.Joins.{end_to_end}
 use Rattle.terms.specs.Nests.{Nest, count, work_of, path_of, opener_entry, written, IsNest, SomeNest}
 use Rattle.terms.specs.Refusals.{nest_rows}
 use Rattle.terms.specs.Replies.{IsNestMeasure}
-use Rattle.terms.specs.declared.Refusal.{Refusal}
-use Rattle.terms.specs.declared.Measure.TheVariants as measure
-use Rattle.theory.proofs.Answers.{begin, stop_with}
+use Rattle.terms.specs.declared.Refusal.TheVariants.{Nest as NestRefusal}
+use Rattle.terms.proofs.Decisions.{told}
+use Rattle.theory.proofs.Answers.{begin, stop}
 use Rattle.nests.specs.declared.walk.Walk.{Walk}
 use Rattle.nests.specs.Walks.{entries_from, weights_of, Opens, OpenerAt}
 use Rattle.nests.proofs.Entries.{entries_length, entries_past}
@@ -48,27 +48,27 @@ module _ (row : List (List ℕ)) where
     shallow = omega (arith, b.shallow);
   }
 
-  refused : {a : Refusal} → ¬ SomeNest row → a ≡ refusal_of 32 → IsNestMeasure row (measure.Refused a)
+  refused : ¬ SomeNest row → IsNestMeasure row (Err NestRefusal)
   unfolding IsNestMeasure nest_rows
-  refused n e = stop_with (begin (nest_rows row)) n e
+  refused n = stop (begin (nest_rows row)) n told
 
   -- more than 256 entries
-  pub row_long : {a : Refusal} → 256 < length row → a ≡ refusal_of 32 → IsNestMeasure row (measure.Refused a)
-  row_long l e = refused (λ n. omega (arith, l, n.is_nest.short)) e
+  pub row_long : 256 < length row → IsNestMeasure row (Err NestRefusal)
+  row_long l = refused (λ n. omega (arith, l, n.is_nest.short))
 
-  module _ {walk : Walk} (opener : OpenerAt end_to_end 8 row 0 walk) where
-    -- no sequence opens the row
-    pub row_broken : {a : Refusal} → walk.next ≡ 0 → a ≡ refusal_of 32 → IsNestMeasure row (measure.Refused a)
-    row_broken none e = refused (λ n. opener.nothing none (work_of n.nest) (path_of n.nest) [] (fills_row n.is_nest)) e
+  -- no sequence opens the row
+  pub row_broken : OpenerAt end_to_end 8 row 0 None → IsNestMeasure row (Err NestRefusal)
+  row_broken none = refused (λ n. none (work_of n.nest) (path_of n.nest) [] (fills_row n.is_nest))
 
+  module _ (walk : Walk) (opener : OpenerAt end_to_end 8 row 0 (Some walk)) where
     -- it does not fill the row
-    pub row_left : {a : Refusal} → ¬ (walk.next ≡ 0) → walk.next < length row → a ≡ refusal_of 32 → IsNestMeasure row (measure.Refused a)
-    row_left some l e = refused (λ n.
-        let long = ap length (one_opens (opener.found some) (fills_row n.is_nest)) in
-        omega (arith, long, l, entries_length row walk.next)) e
+    pub row_left : walk.next < length row → IsNestMeasure row (Err NestRefusal)
+    row_left l = refused (λ n.
+        let long = ap length (one_opens opener (fills_row n.is_nest)) in
+        omega (arith, long, l, entries_length row walk.next))
 
-    pub row_filled : ¬ (walk.next ≡ 0) → length row ≤ walk.next → length row ≤ 256 → IsNestMeasure row (measure.Is (weights_of walk.c walk.p))
+    pub row_filled : length row ≤ walk.next → length row ≤ 256 → IsNestMeasure row (Ok (weights_of walk.c walk.p))
     unfolding IsNestMeasure
-    row_filled some l short =
-        let o = rw (entries_past row walk.next l) at (opener.found some) in
+    row_filled l short =
+        let o = rw (entries_past row walk.next l) at opener in
         (o.begins.members, is_nest_lem short o, o.begins.work, o.begins.path)

@@ -1,10 +1,12 @@
 -- What the entries from a place of a nest's row on begin with, and what a walk over them answers.
-use Rattle.std.specs.Prelude.{◌≡◌, List, [], ◌∷◌, ◌++◌, ℕ, ◌+◌, ◌-◌, ◌≤◌, ◌<◌, length, drop}
+use Rattle.std.specs.Prelude.{◌≡◌, List, [], ◌∷◌, ◌++◌, ℕ, ◌+◌, ◌-◌, ◌≤◌, ◌<◌, length, drop, Option, Some, None}
 use Rattle.terms.specs.Graphs.{Among}
-use Rattle.terms.specs.Joins.{Way}
+use Rattle.terms.specs.Joins.{Way, end_to_end, side_by_side}
 use Rattle.terms.specs.Nests.{Members, count, depth, work_of, path_of, kind_of, graph_entry, written, InRange, Ruled, numbers_of}
 use Rattle.terms.specs.declared.Weights.{Weights}
 use Rattle.nests.specs.declared.walk.Walk.{Walk}
+use Rattle.nests.specs.declared.walk.Kind.{Kind}
+use Rattle.nests.specs.declared.walk.Kind.TheVariants.{Sequence, Group}
 
 -- the entries from a place on, by their numbers
 unfoldable pub entries_from : List (List ℕ) → ℕ → List (List ℕ)
@@ -45,23 +47,29 @@ pub record Opens (way : Way) (d : ℕ) (entries : List (List ℕ)) (c p : ℕ) (
 
 -- ---- what is answered
 
--- how many members the opener at a place has, and 0 where there is none
-pub record CountsAt (row : List (List ℕ)) (at kind r : ℕ) : Type 0 where
-  pub within : ¬ (r ≡ 0) → at < length row
-  pub found : ¬ (r ≡ 0) → BeginsOpener kind (entries_from row at) r (entries_from row (at + 1))
-  pub nothing : r ≡ 0 → (many : ℕ) (inside : List (List ℕ)) → ¬ BeginsOpener kind (entries_from row at) many inside
+-- how many members the opener of this kind at a place has, where there is one
+abbrev pub CountsAt : List (List ℕ) → ℕ → ℕ → Option ℕ → Type 0
+CountsAt row at kind (Some many) = (at < length row) × BeginsOpener kind (entries_from row at) many (entries_from row (at + 1))
+CountsAt row at kind None = (many : ℕ) (inside : List (List ℕ)) → ¬ BeginsOpener kind (entries_from row at) many inside
 
--- a walk over what is so: its C and P, and where the entries behind it begin; 0 where nothing is so
-pub record Tells (row : List (List ℕ)) (IsSo : ℕ → ℕ → List (List ℕ) → Type 0) (walk : Walk) : Type 0 where
-  pub found : ¬ (walk.next ≡ 0) → IsSo walk.c walk.p (entries_from row walk.next)
-  pub nothing : walk.next ≡ 0 → (c p : ℕ) (after : List (List ℕ)) → ¬ IsSo c p after
+-- a walk over what is so: its C and P, and where the entries behind it begin; or nothing is so
+abbrev pub Tells : List (List ℕ) → (ℕ → ℕ → List (List ℕ) → Type 0) → Option Walk → Type 0
+Tells row IsSo (Some walk) = IsSo walk.c walk.p (entries_from row walk.next)
+Tells row IsSo None = (c p : ℕ) (after : List (List ℕ)) → ¬ IsSo c p after
 
 -- over a graph, a member, an opener
-abbrev pub GraphAt : List (List ℕ) → ℕ → Walk → Type 0
+abbrev pub GraphAt : List (List ℕ) → ℕ → Option Walk → Type 0
 GraphAt row at walk = Tells row (BeginsGraph (entries_from row at)) walk
 
-abbrev pub MemberAt : Way → ℕ → List (List ℕ) → ℕ → Walk → Type 0
-MemberAt way d row at walk = Tells row (Begins way d 1 (entries_from row at)) walk
-
-abbrev pub OpenerAt : Way → ℕ → List (List ℕ) → ℕ → Walk → Type 0
+abbrev pub OpenerAt : Way → ℕ → List (List ℕ) → ℕ → Option Walk → Type 0
 OpenerAt way d row at walk = Tells row (Opens way d (entries_from row at)) walk
+
+-- ---- the two kinds of openers
+
+abbrev pub way_of : Kind → Way
+way_of Sequence = end_to_end
+way_of Group = side_by_side
+
+abbrev pub other_kind : Kind → Kind
+other_kind Sequence = Group
+other_kind Group = Sequence

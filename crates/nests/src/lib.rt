@@ -5,24 +5,23 @@ mod walk;
 
 ghost use Rattle.terms.specs.Replies.{IsNestMeasure};
 
-use crate::walk::sequence;
-use terms::{Measure, Weights, refuse};
+use crate::walk::{Kind, opener_at};
+use terms::{Refusal, Weights};
 
 // C and P of a nest, out of the row that it is written as.
-pub fn figures_of(row: &[[u32; 3]]) -> Measure
+pub fn figures_of(row: &[[u32; 3]]) -> Result<Weights, Refusal>
     ensures { IsNestMeasure row.now result }
 {
     if 256 < row.len() {
-        return Measure::Refused(refuse(32));
+        return Err(Refusal::Nest);
     }
-    let nest = sequence(row, 0, 8);
-    if nest.next == 0 {
-        return Measure::Refused(refuse(32));
-    }
+    let Some(nest) = opener_at(row, 0, Kind::Sequence, 8) else {
+        return Err(Refusal::Nest);
+    };
     if nest.next < row.len() {
-        return Measure::Refused(refuse(32));
+        return Err(Refusal::Nest);
     }
-    Measure::Is(Weights {
+    Ok(Weights {
         c: nest.c,
         p: nest.p,
     })

@@ -1,11 +1,9 @@
-// The walk over a nest's row: a sequence and a group go over their members in turn, and into those that are openers of the other kind.
-ghost use Rattle.std.specs.Prelude.{◌≡◌, ◌≤◌, max, length};
-ghost use Rattle.terms.specs.Joins.{end_to_end, side_by_side};
-ghost use Rattle.nests.specs.Walks.{CountsAt, GraphAt, OpenerAt};
+// The walk over a nest's row: an opener is gone over member by member, and so is each member that is an opener of the other kind.
+ghost use Rattle.std.specs.Prelude.{◌≡◌, ◌≤◌, ◌<◌, length};
+ghost use Rattle.terms.specs.Nests.{kind_of, together};
+ghost use Rattle.nests.specs.Walks.{way_of, other_kind, CountsAt, GraphAt, OpenerAt};
 
-use inputs::larger;
-
-// How far a walk came, and C and P of what it went over; `next` is 0 where the row breaks a rule.
+// How far a walk came, and C and P of what it went over.
 #[derive(Clone, Copy)]
 pub struct Walk {
     pub next: usize,
@@ -13,134 +11,88 @@ pub struct Walk {
     pub p: u32,
 }
 
-fn broken() -> Walk
-    ensures { result.next ≡ 0 }
-{
-    Walk {
-        next: 0,
-        c: 0,
-        p: 0,
+// A sequence has its members end to end, a group side by side.
+#[derive(Clone, Copy)]
+pub enum Kind {
+    Sequence,
+    Group,
+}
+
+impl Kind {
+    // The number that an opener of this kind has in the row.
+    fn number(self) -> u32
+        ensures { result ≡ kind_of (way_of self) }
+    {
+        match self {
+            Kind::Sequence => 1,
+            Kind::Group => 2,
+        }
+    }
+
+    fn other(self) -> Kind
+        ensures { result ≡ other_kind self }
+    {
+        match self {
+            Kind::Sequence => Kind::Group,
+            Kind::Group => Kind::Sequence,
+        }
+    }
+
+    // P of what comes first and of what comes then.
+    fn together(self, p: u32, q: u32) -> u32
+        requires { together (way_of self) p q < 4294967296 }
+        ensures { result ≡ together (way_of self) p q }
+    {
+        match self {
+            Kind::Sequence => p + q,
+            Kind::Group => p.max(q),
+        }
     }
 }
 
-// How many members the opener at a place has; 0 where no opener of this kind stands there, or not with 1 to 16 members.
-fn members_at(row: &[[u32; 3]], at: usize, kind: u32) -> u32
-    ensures { CountsAt row.now at kind result }
+// How many members the opener at a place has, 1 to 16, where one of this kind stands there.
+fn members_at(row: &[[u32; 3]], at: usize, kind: Kind) -> Option<u32>
+    ensures { CountsAt row.now at (kind_of (way_of kind)) result }
 {
-    if row.len() <= at {
-        return 0;
+    let &[number, members, last] = row.get(at)?;
+    if number == kind.number() && (1..=16).contains(&members) && last == 0 {
+        Some(members)
+    } else {
+        None
     }
-    let entry = row[at];
-    if entry[0] != kind {
-        return 0;
-    }
-    if entry[2] != 0 {
-        return 0;
-    }
-    if 16 < entry[1] {
-        return 0;
-    }
-    entry[1]
 }
 
-// The graph at a place: P from 1 to C, C at most 16,776,960.
-fn graph_at(row: &[[u32; 3]], at: usize) -> Walk
+// The graph at a place, where one stands there: P from 1 to C, C at most 16,776,960.
+fn graph_at(row: &[[u32; 3]], at: usize) -> Option<Walk>
     ensures { GraphAt row.now at result }
 {
-    if row.len() <= at {
-        return broken();
-    }
-    let entry = row[at];
-    if entry[0] != 0 {
-        return broken();
-    }
-    if entry[2] == 0 {
-        return broken();
-    }
-    if entry[1] < entry[2] {
-        return broken();
-    }
-    if 16776960 < entry[1] {
-        return broken();
-    }
-    Walk {
-        next: at + 1,
-        c: entry[1],
-        p: entry[2],
+    let &[number, c, p] = row.get(at)?;
+    if number == 0 && (1..=c).contains(&p) && c <= 16776960 {
+        Some(Walk { next: at + 1, c, p })
+    } else {
+        None
     }
 }
 
-// The sequence that opens at a place, at most so many openers deep: its members are graphs and groups, and P adds.
-#[cycle(group_sequence)]
-pub fn sequence(row: &[[u32; 3]], at: usize, depth: usize) -> Walk
+// The opener of this kind at a place, at most so many openers deep, where one stands there: its members are graphs and openers of the
+// other kind.
+pub fn opener_at(row: &[[u32; 3]], at: usize, kind: Kind, depth: usize) -> Option<Walk>
     requires { length row.now ≤ 256 }
-    ensures { OpenerAt end_to_end depth row.now at result }
+    ensures { OpenerAt (way_of kind) depth row.now at result }
 {
-    let mut left = members_at(row, at, 1);
-    if left == 0 {
-        return broken();
-    }
-    if depth == 0 {
-        return broken();
-    }
+    let members = members_at(row, at, kind)?;
+    let deeper = depth.checked_sub(1)?;
     let mut next = at + 1;
     let mut c: u32 = 0;
     let mut p: u32 = 0;
-    while left > 0 {
-        let graph = graph_at(row, next);
-        let member = if graph.next > 0 {
-            graph
-        } else {
-            group(row, next, depth - 1)
+    for _ in 0..members {
+        let member = match graph_at(row, next) {
+            Some(graph) => graph,
+            None => opener_at(row, next, kind.other(), deeper)?,
         };
-        if member.next == 0 {
-            return broken();
-        }
         next = member.next;
         c += member.c;
-        p += member.p;
-        left -= 1;
+        p = kind.together(p, member.p);
     }
-    Walk { next, c, p }
-}
-
-// P of two side by side.
-fn beside(p: u32, q: u32) -> u32
-    ensures { result ≡ max p q }
-{
-    larger(p, q)
-}
-
-// The group that opens at a place: its members are graphs and sequences, and the larger P stays.
-#[cycle(group_sequence)]
-fn group(row: &[[u32; 3]], at: usize, depth: usize) -> Walk
-    requires { length row.now ≤ 256 }
-    ensures { OpenerAt side_by_side depth row.now at result }
-{
-    let mut left = members_at(row, at, 2);
-    if left == 0 {
-        return broken();
-    }
-    if depth == 0 {
-        return broken();
-    }
-    let mut next = at + 1;
-    let mut c: u32 = 0;
-    let mut p: u32 = 0;
-    while left > 0 {
-        let graph = graph_at(row, next);
-        let member = if graph.next > 0 {
-            graph
-        } else {
-            sequence(row, next, depth - 1)
-        };
-        if member.next == 0 {
-            return broken();
-        }
-        next = member.next;
-        c += member.c;
-        p = beside(p, member.p);
-        left -= 1;
-    }
-    Walk { next, c, p }
+    Some(Walk { next, c, p })
 }

@@ -1,30 +1,23 @@
 -- The first two subtasks that clash. Assumes nothing.
-use mathlib.Core.Path.{◌≡◌}
-use mathlib.Core.Logic.{◌≢◌}
-use mathlib.Core.List.{List}
-use Prim.Native.Nat.{ℕ, ◌+◌, ◌≤◌, ◌<◌}
-use native.Mathlib.Omega.{arith}
-use lib.ListN.{length}
-use Rattle.theory.specs.First.{FirstSubtask}
-use Rattle.theory.proofs.Firsts.{NoneTo, first_here, first_none, first_is, first_no}
+use Rattle.std.proofs.Common.{List, ℕ, ◌+◌, ◌<◌, length, None, Some, arith}
+use Rattle.terms.specs.declared.Entry.{Entry}
+use Rattle.terms.specs.declared.Subtask.{Subtask}
+use Rattle.theory.specs.First.{IsFirstSubtask}
+use Rattle.theory.proofs.Firsts.{NoneTo}
 use Rattle.plancheck.specs.Scans.{Clash, Clashes, FirstClash}
+use Rattle.plancheck.proofs.FirstSubtasks.{first_here}
 
 -- a subtask does not clash with itself or with one before it
-pub none_before : (times procs starts : List ℕ) (i : ℕ) → NoneTo (Clash times procs starts i) i
-none_before times procs starts i k l c = omega (arith, c.after)
+pub none_before : (times : List ℕ) (plan : List Entry) (i : ℕ) → NoneTo (Clash times plan i) i
+none_before times plan i k l c = omega (arith, c.after)
 
-module _ (times procs starts : List ℕ) (i : ℕ) (none : NoneTo (Clashes times procs starts) i) where
-  pub pair_found : {j : ℕ} → i < length times → FirstSubtask (length times) (Clash times procs starts (i + 1)) j → j ≢ 0
-      → FirstClash times procs starts (record { lower = record { 0 = i + 1 }; higher = record { 0 = j } })
-  pair_found {j} l f h =
-      let x = first_is (Clash times procs starts (i + 1)) f h in record {
-        first_lower = first_here _ (λ k. Clashes times procs starts (k + 1)) i l none (record { other = j; is_subtask = x.0; clash = x.1 });
-        first_higher = λ _. (f, omega (arith, h));
-      }
-
-  pub pair_none : length times ≤ i → FirstClash times procs starts (record { lower = record { 0 = 0 }; higher = record { 0 = 0 } })
-  pair_none l = record { first_lower = first_none _ (λ k. Clashes times procs starts (k + 1)) i none l; first_higher = λ x. absurd (omega (arith, x)) }
+module _ {times : List ℕ} {plan : List Entry} {i : ℕ} (none : NoneTo (Clashes times plan) i) where
+  pub pair_found : (j : Subtask) → i < length times → IsFirstSubtask (length times) (Clash times plan (i + 1)) (Some j)
+      → FirstClash times plan (Some (record { lower = record { 0 = i + 1 }; higher = j }))
+  unfolding FirstClash IsFirstSubtask
+  pair_found j l f = (first_here (Clashes times plan) none l (record { other = j.0; is_subtask = f.0; clash = f.1 }), f)
 
 -- no clash of i, from what the scan for it answered
-pub no_clashes : {times procs starts : List ℕ} {i j : ℕ} → FirstSubtask (length times) (Clash times procs starts i) j → j ≡ 0 → ¬ Clashes times procs starts i
-no_clashes {times} {procs} {starts} {i} f z c = first_no (Clash times procs starts i) f z c.other c.is_subtask c.clash
+pub no_clashes : {times : List ℕ} {plan : List Entry} {i : ℕ} → IsFirstSubtask (length times) (Clash times plan i) None → ¬ Clashes times plan i
+unfolding IsFirstSubtask
+no_clashes f c = f c.other c.is_subtask c.clash

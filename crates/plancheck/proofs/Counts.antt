@@ -1,111 +1,92 @@
--- How many run at an instant, counted subtask by subtask; the earliest instant at which one idles. Assumes nothing.
-use mathlib.Core.Path.{◌≡◌, refl, sym, ap, ◌∙◌}
-use mathlib.Core.Logic.Dec
-use mathlib.Core.Logic.{◌≢◌, by_cases}
-use mathlib.Core.List.{List}
-use Prim.Native.Nat.{ℕ, suc, ◌+◌, ◌-◌, ◌≤◌, ◌<◌}
-use native.Mathlib.Numerals.{add-one}
-use native.Mathlib.Omega.{arith}
-use native.Mathlib.Decide.{dec_le, dec_lt, ℕ_discrete}
-use lib.ListN.{length}
-use Rattle.terms.specs.Graphs.{IsSubtask}
-use Rattle.terms.specs.Plans.{Placed, start_of, end_of}
+-- How many run at an instant; the earliest instant at which one idles. Assumes nothing.
+use Rattle.std.proofs.Common.{◌≡◌, refl, sym, ap, ◌∙◌, List, [], ◌∷◌, ℕ, suc, ◌+◌, ◌-◌, ◌≤◌, ◌<◌, Option, None, Some, cond, length, get_or, arith, add-one}
+use Rattle.std.proofs.Math.Logic.{by_cases}
+use Rattle.std.proofs.Math.Decide.{dec_le, dec_lt, ℕ_discrete}
+use Rattle.std.specs.List.{zip}
+use native.Mathlib.Nat.{suc_inj}
+use Rattle.std.proofs.lemmas.List.Sums.{sum_by-cons}
+use Rattle.std.proofs.lemmas.Bool.Decides.{nat_tests}
+use Rattle.terms.specs.Graphs.{Among, IsSubtask}
+use Rattle.terms.specs.Plans.{not_placed, Placed, RunsAt, end_of}
+use Rattle.forms.proofs.PlanEnds.{start_next, end_next}
 use Rattle.terms.specs.declared.Entry.{Entry}
 use Rattle.terms.specs.Sums.{sum}
 use Rattle.theory.specs.Counting.{bit}
-use Rattle.theory.proofs.Sums.{sum_eq, bit_yes, bit_no, bit_mono}
+use Rattle.theory.proofs.Sums.{sum_eq, sum_first}
 use Rattle.theory.proofs.Running.{dec_runs, runs, running}
-use Rattle.forms.specs.Forms.{never, item_of, finish_of}
-use Rattle.theory.specs.First.{FirstSubtask}
-use Rattle.theory.proofs.Firsts.{first_is, first_no}
-use Rattle.plancheck.specs.Scans.{runs_in, running_among, Idles, Earliest}
+use Rattle.plancheck.specs.Scans.{runs_in, running_among, SomeIdles, Earliest}
 
-module _ (s e t : ℕ) where
-  pub runs_now : s ≤ t → t < e → (1 ≡ runs_in s e t) × (1 ≤ 1)
-  unfolding runs_in
-  runs_now a b = (sym (bit_yes (Dec.and (dec_le s t) (dec_lt t e)) (a, b)), omega arith)
+-- 1 where a subtask of this time and entry runs at t, else 0
+abbrev one : ℕ → ℕ → Entry → ℕ
+one t time entry = cond (runs_in t time entry) 1 0
 
-  pub runs_later : t < s → (0 ≡ runs_in s e t) × (0 ≤ 1)
-  unfolding runs_in
-  runs_later a = (sym (bit_no (Dec.and (dec_le s t) (dec_lt t e)) (λ h. omega (arith, h.0))), omega arith)
+one_yes : (t w : ℕ) (x : Entry) → x.start ≤ t → t < x.start + w → one t w x ≡ 1
+one_yes t w x l m = grind (arith, nat_tests)
 
-  pub runs_no_more : e ≤ t → (0 ≡ runs_in s e t) × (0 ≤ 1)
-  unfolding runs_in
-  runs_no_more a = (sym (bit_no (Dec.and (dec_le s t) (dec_lt t e)) (λ h. omega (arith, h.1))), omega arith)
+one_no : (t w : ℕ) (x : Entry) → ¬ ((x.start ≤ t) × (t < x.start + w)) → one t w x ≡ 0
+one_no t w x h = by_cases (dec_le x.start t) (λ l. by_cases (dec_lt t (x.start + w)) (λ m. absurd (h (l, m))) (λ m. grind (arith, nat_tests))) (λ l. grind (arith, nat_tests))
 
-pub among_none : (times starts : List ℕ) (t : ℕ) → running_among times starts t 0 ≡ 0
-unfolding running_among sum
-among_none times starts t = refl
-
-pub among_more : (times starts : List ℕ) (t j s e b : ℕ) → s ≡ item_of starts (j + 1) → e ≡ finish_of times starts (j + 1) → b ≡ runs_in s e t
-    → running_among times starts t (j + 1) ≡ running_among times starts t j + b
-unfolding running_among sum
-among_more times starts t j s e b p q r = rw (r, p, q, add-one j) refl
+counted : (t : ℕ) (times : List ℕ) (plan : List Entry) → length plan ≡ length times
+    → running_among t times plan ≡ sum (length times) (λ i. one t (get_or times i 0) (get_or plan i not_placed))
+unfolding sum
+counted t [] plan e = refl
+counted t (w ∷ times) [] e = absurd (omega arith)
+counted t (w ∷ times) (x ∷ plan) e =
+    sum_by-cons (λ (p : ℕ × Entry). one t p.0 p.1) (w, x) (zip times plan) ∙ ap (λ (k : ℕ). one t w x + k) (counted t times plan (suc_inj e)) ∙ sym (sum_first (length times) (λ i. one t (get_or (w ∷ times) i 0) (get_or (x ∷ plan) i not_placed)))
 
 -- where every subtask is placed, those are the ones that run
-pub among_running : (times starts : List ℕ) (plan : List Entry) (t : ℕ) → ((j : ℕ) → IsSubtask times j → Placed plan j)
-    → ((j : ℕ) → start_of plan j ≡ item_of starts j) → ((j : ℕ) → end_of times plan j ≡ finish_of times starts j) → running_among times starts t
-    (length times) ≡ running times plan t
-unfolding running_among running runs_in runs
-among_running times starts plan t placed start end = sum_eq (length times) _ _ (λ i l. one (suc i) (record { low = omega arith; high = l }))
+pub among_running : (times : List ℕ) (plan : List Entry) (t : ℕ) → length plan ≡ length times → ((j : ℕ) → IsSubtask times j → Placed plan j)
+    → running_among t times plan ≡ running times plan t
+unfolding running runs bit
+among_running times plan t whole placed = counted t times plan whole ∙ sum_eq (length times) _ _ (λ i l. same i l (dec_runs times plan (suc i) t))
   where
-    one : (j : ℕ) → IsSubtask times j → runs_in (item_of starts j) (finish_of times starts j) t ≡ runs times plan j t
-    one j s = both (Dec.and (dec_le (item_of starts j) t) (dec_lt t (finish_of times starts j))) (dec_runs times plan j t)
-        (λ x. record { placed = placed j s; begun = omega (arith, x.0, start j); unended = omega (arith, x.1, end j) })
-        (λ r. (omega (arith, r.begun, start j), omega (arith, r.unended, end j)))
-      where
-        both : {A B : Type 0} (x : Dec A) (y : Dec B) → (A → B) → (B → A) → bit x ≡ bit y
-        both x y f g = let u = bit_mono x y f in let w = bit_mono y x g in omega arith
+    same : (i : ℕ) → i < length times → (d : Dec (RunsAt times plan (suc i) t)) → one t (get_or times i 0) (get_or plan i not_placed) ≡ bit d
+    same i l (yes r) =
+        one_yes t (get_or times i 0) (get_or plan i not_placed) (omega (arith, r.begun, rw add-one at (start_next times plan i))) (omega (arith, r.unended, rw add-one at (end_next times plan i)))
+    same i l (no n) = one_no t (get_or times i 0) (get_or plan i not_placed) (λ h. n (record {
+      placed = placed (suc i) (record { low = omega arith; high = l });
+      begun = omega (arith, h.0, rw add-one at (start_next times plan i));
+      unended = omega (arith, h.1, rw add-one at (end_next times plan i));
+    }))
 
 -- ---- the earliest
 
-module _ (times starts ready : List ℕ) (M : ℕ) where
-  module _ {r : ℕ} (f : FirstSubtask (length times) (Idles times starts ready M 0) r) where
-    pub earliest_first : {k : ℕ} → r ≢ 0 → Earliest times starts ready M k 0
-    earliest_first h = let x = first_is (Idles times starts ready M 0) f h in record {
-      fits = omega arith;
-      holds = λ _. (r, x.0, x.1);
-      first = λ _ _ _. omega arith;
-      later = λ _ _ _ _ _. omega arith;
-    }
+module _ (times : List ℕ) (plan : List Entry) (ready : List ℕ) (M : ℕ) where
+  pub earliest_first : (k : ℕ) → SomeIdles times plan ready M 0 → Earliest times plan ready M k (Some 0)
+  unfolding Earliest
+  earliest_first k some = (some, λ _. refl, λ i a s. omega arith)
 
-    pub earliest_none : r ≡ 0 → Earliest times starts ready M 0 never
-    earliest_none z = record {
-      fits = omega arith;
-      holds = λ l. absurd (omega (arith, l));
-      first = λ j s d. absurd (first_no (Idles times starts ready M 0) f z j s d);
-      later = λ i a. absurd (omega (arith, a.low, a.high));
-    }
+  pub earliest_none : ¬ SomeIdles times plan ready M 0 → Earliest times plan ready M 0 None
+  unfolding Earliest
+  earliest_none none = (none, λ i a. absurd (omega (arith, a.low, a.high)))
 
-  module _ {j found e : ℕ} (h : Earliest times starts ready M (j - 1) found) (q : e ≡ finish_of times starts j) where
-    pub earliest_stays : found ≤ e → Earliest times starts ready M j found
-    earliest_stays l = record {
-      fits = h.fits;
-      holds = h.holds;
-      first = h.first;
-      later =
-          λ k a x s d. by_cases (ℕ_discrete k j) (λ c. rw c (omega (arith, q, l)))
-          (λ c. h.later k (record { low = a.low; high = omega (arith, a.high, c) }) x s d);
-    }
+  module _ (j e : ℕ) (q : e ≡ end_of times plan j) where
+    -- of 1..j, below j
+    below : {k : ℕ} → Among 1 j k → ¬ (k ≡ j) → Among 1 (j - 1) k
+    below a c = record { low = a.low; high = omega (arith, a.high, c) }
 
-    module _ {r : ℕ} (f : FirstSubtask (length times) (Idles times starts ready M e) r) where
-      pub earliest_moves : r ≢ 0 → e < found → Earliest times starts ready M j e
-      earliest_moves n l = let x = first_is (Idles times starts ready M e) f n in record {
-        fits = omega (arith, h.fits, l);
-        holds = λ _. (r, x.0, x.1);
-        first = λ j s d. omega (arith, h.first j s d, l);
-        later =
-            λ k a x s d. by_cases (ℕ_discrete k j) (λ c. rw c (omega (arith, q)))
-            (λ c. omega (arith, h.later k (record { low = a.low; high = omega (arith, a.high, c) }) x s d, l));
-      }
+    pub earliest_stays : (found : ℕ) → Earliest times plan ready M (j - 1) (Some found) → found ≤ e → Earliest times plan ready M j (Some found)
+    unfolding Earliest
+    earliest_stays found (some, at0, later) l =
+        (some, at0, λ k a s. by_cases (ℕ_discrete k j) (λ c. rw c (omega (arith, q, l))) (λ c. later k (below a c) s))
 
-      pub earliest_skips : r ≡ 0 → Earliest times starts ready M j found
-      earliest_skips z = record {
-        fits = h.fits;
-        holds = h.holds;
-        first = h.first;
-        later =
-            λ k a x s d. by_cases (ℕ_discrete k j)
-            (λ c. absurd (first_no (Idles times starts ready M e) f z x s (rw (ap (finish_of times starts) c ∙ sym q) at d)))
-            (λ c. h.later k (record { low = a.low; high = omega (arith, a.high, c) }) x s d);
-      }
+    -- no subtask idles before e
+    pub earliest_moves : (found : Option ℕ) → Earliest times plan ready M (j - 1) found → ((t : ℕ) → found ≡ Some t → e < t) → SomeIdles times plan ready M e
+        → Earliest times plan ready M j (Some e)
+    unfolding Earliest
+    earliest_moves None (none, later) l some =
+        (some, λ s. absurd (none s), λ k a s. by_cases (ℕ_discrete k j) (λ c. rw c (omega (arith, q))) (λ c. absurd (later k (below a c) s)))
+    earliest_moves (Some t) (is, at0, later) l some =
+        let b : e < t = l t refl in (
+          some,
+          λ s. omega (arith, at0 s, b),
+          λ k a s. by_cases (ℕ_discrete k j) (λ c. rw c (omega (arith, q)))
+              (λ c. omega (arith, later k (below a c) s, b)),
+        )
+
+    pub earliest_skips : (found : Option ℕ) → Earliest times plan ready M (j - 1) found → ¬ SomeIdles times plan ready M e → Earliest times plan ready M j found
+    unfolding Earliest
+    earliest_skips None (none, later) not_here =
+        (none, λ k a s. by_cases (ℕ_discrete k j) (λ c. not_here (rw (c, ← q) at s)) (λ c. later k (below a c) s))
+    earliest_skips (Some t) (is, at0, later) not_here =
+        (is, at0, λ k a s. by_cases (ℕ_discrete k j) (λ c. absurd (not_here (rw (c, ← q) at s))) (λ c. later k (below a c) s))

@@ -7,31 +7,32 @@ use native.Mathlib.Omega.{arith}
 use native.Mathlib.Decide.{dec_le, ℕ_discrete}
 use lib.ListN.{get_or, set, replicate, length-set, length-replicate, get_or-replicate}
 use Rattle.terms.specs.Graphs.{from_of, to_of}
-use Rattle.forms.specs.Forms.{finish_of}
+use Rattle.terms.specs.Plans.{end_of}
+use Rattle.terms.specs.declared.Entry.{Entry}
 use Rattle.theory.proofs.Stores.{read_set}
 use Rattle.plancheck.specs.Known.{LatestEnd, LatestEnds}
 
-module _ (times : List ℕ) (arrows : List (List ℕ)) (starts : List ℕ) where
-  pub latest_none : (ready : List ℕ) → ready ≡ replicate 257 0 → LatestEnds times arrows starts 0 ready
-  latest_none ready e = record {
-    long = rw e (length-replicate {A = ℕ} 257 0);
+module _ (times : List ℕ) (arrows : List (List ℕ)) (plan : List Entry) where
+  pub latest_none : LatestEnds times arrows plan 0 (replicate 257 0)
+  latest_none = record {
+    long = length-replicate {A = ℕ} 257 0;
     each = λ j l. record { most = λ a b q. absurd (omega (arith, b)); reached = λ x. absurd (nought j l x) };
   }
     where
-      nought : (j : ℕ) → j < 257 → ¬ (0 < get_or ready j 0)
-      nought j l x = let z : get_or ready j 0 ≡ 0 = rw e (get_or-replicate {A = ℕ} 257 j 0 0 l) in omega (arith, x)
+      nought : (j : ℕ) → j < 257 → ¬ (0 < get_or (replicate 257 0) j 0)
+      nought j l x = omega (arith, x, get_or-replicate {A = ℕ} 257 j 0 0 l)
 
-  module _ (ready : List ℕ) (i v e r : ℕ) (h : LatestEnds times arrows starts i ready) (to : v ≡ to_of arrows i) (l : v < 257)
-      (end : e ≡ finish_of times starts (from_of arrows i)) (larger : r ≡ max (get_or ready v 0) e) where
-    pub latest_more : LatestEnds times arrows starts (i + 1) (set ready v r)
+  module _ (ready : List ℕ) (i v e r : ℕ) (h : LatestEnds times arrows plan i ready) (to : v ≡ to_of arrows i) (l : v < 257)
+      (end : e ≡ end_of times plan (from_of arrows i)) (larger : r ≡ max (get_or ready v 0) e) where
+    pub latest_more : LatestEnds times arrows plan (i + 1) (set ready v r)
     latest_more = record {
       long = length-set ready v r ∙ h.long;
       each =
-          λ j m. read_set (λ x. LatestEnd times arrows starts (i + 1) j x) ready v r j (omega (arith, h.long, l)) (λ c. here j c (h.each j m))
+          λ j m. read_set (λ x. LatestEnd times arrows plan (i + 1) j x) ready v r j (omega (arith, h.long, l)) (λ c. here j c (h.each j m))
           (λ c. there j c (h.each j m));
     }
       where
-        here : (j : ℕ) → j ≡ v → LatestEnd times arrows starts i j (get_or ready j 0) → LatestEnd times arrows starts (i + 1) j r
+        here : (j : ℕ) → j ≡ v → LatestEnd times arrows plan i j (get_or ready j 0) → LatestEnd times arrows plan (i + 1) j r
         here j c o =
             let same : get_or ready j 0 ≡ get_or ready v 0 = ap (λ (y : ℕ). get_or ready y 0) c in
             record {
@@ -46,7 +47,7 @@ module _ (times : List ℕ) (arrows : List (List ℕ)) (starts : List ℕ) where
                   (i, omega arith, sym to ∙ sym c, sym end ∙ is));
             }
 
-        there : (j : ℕ) → ¬ (j ≡ v) → LatestEnd times arrows starts i j (get_or ready j 0) → LatestEnd times arrows starts (i + 1) j (get_or ready j 0)
+        there : (j : ℕ) → ¬ (j ≡ v) → LatestEnd times arrows plan i j (get_or ready j 0) → LatestEnd times arrows plan (i + 1) j (get_or ready j 0)
         there j c o = record {
           most = λ k m z. by_cases (ℕ_discrete k i) (λ g. absurd (c (sym z ∙ ap (to_of arrows) g ∙ sym to))) (λ g. o.most k (omega arith) z);
           reached = λ x. let w = o.reached x in (w.0, omega (arith, w.1), w.2, w.3);

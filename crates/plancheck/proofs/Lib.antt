@@ -1,3 +1,4 @@
+pub mod FirstSubtasks
 pub mod Clashes
 pub mod LatestEnds
 pub mod Counts

@@ -1,4 +1,3 @@
-pub mod Tables
 pub mod Known
 pub mod Scans
 pub mod Sweeps

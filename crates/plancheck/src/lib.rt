@@ -1,4 +1,4 @@
-// The plan check: 1 to 8 and 12 to 17 of a table of entries, and the plan's end.
+// The plan check: 1 to 8 and 12 to 17 of a plan, and the plan's end.
 #![tactic(auto)]
 
 mod exact;
@@ -7,21 +7,16 @@ mod scan;
 mod sort;
 mod sweep;
 
-ghost use Rattle.std.specs.Prelude.{length, take};
-ghost use Rattle.terms.specs.Graphs.{Among};
 ghost use Rattle.terms.specs.Refusals.{check_rows};
 ghost use Rattle.terms.specs.Replies.{IsCheck, IsChecked};
-ghost use Rattle.theory.specs.Sound.{SoundGraph};
-ghost use Rattle.forms.specs.Forms.{entries};
-ghost use Rattle.plancheck.specs.Tables.{ChecksTable};
 ghost use Rattle.plancheck.specs.Known.{Given};
 
 use crate::exact::{earliest_idle, first_sharing};
 use crate::scan::{first_early, first_late, first_misplaced, latest_ends};
 use crate::sweep::passes_sweep;
-use forms::{NEVER, last_end, split};
+use forms::last_end;
 use graph::check_on;
-use terms::{Check, Entry, PlanEnd, Subtask, refuse, refuse_at, refuse_pair};
+use terms::{Entry, Refusal, Subtask};
 
 // Two subtasks, by their numbers.
 #[derive(Clone, Copy)]
@@ -30,102 +25,46 @@ struct Pair {
     higher: Subtask,
 }
 
-// 13 to 17 of a plan in two rows, where none of 1 to 8 and 12 holds.
-fn check_placing(times: &[u16], arrows: &[[u16; 2]], m: u32, procs: &[u8], starts: &[u32]) -> Check
-    requires { Given times.now arrows.now m procs.now starts.now }
-    ensures { IsCheck (check_rows times.now arrows.now m (entries procs.now starts.now)) result }
+// 13 to 17 of a plan, where none of 1 to 8 and 12 holds.
+fn check_placing(times: &[u16], arrows: &[[u16; 2]], m: u32, plan: &[Entry]) -> Result<(), Refusal>
+    requires { Given times.now arrows.now m plan.now }
+    ensures { IsCheck (check_rows times.now arrows.now m plan.now) result }
 {
-    let misplaced = first_misplaced(procs, m);
-    if misplaced.0 != 0 {
-        return Check::Refused(refuse_at(13, misplaced.0 as u32));
+    if let Some(subtask) = first_misplaced(plan, m) {
+        return Err(Refusal::ProcessorOutside(subtask.0 as u32));
     }
-    let late = first_late(starts);
-    if late.0 != 0 {
-        return Check::Refused(refuse_at(14, late.0 as u32));
+    if let Some(subtask) = first_late(plan) {
+        return Err(Refusal::StartLarge(subtask.0 as u32));
     }
-    let mut ready = [0u32; 257];
-    latest_ends(times, arrows, starts, &mut ready);
-    let early = first_early(starts, &ready);
-    if early.0 != 0 {
-        return Check::Refused(refuse_at(15, early.0 as u32));
+    let ready = latest_ends(times, arrows, plan);
+    if let Some(subtask) = first_early(plan, &ready) {
+        return Err(Refusal::StartEarly(subtask.0 as u32));
     }
-    if passes_sweep(times, procs, starts, &ready, m) {
-        return Check::Sound;
+    if passes_sweep(times, plan, &ready, m) {
+        return Ok(());
     }
-    let pair = first_sharing(times, procs, starts);
-    let lower = pair.lower;
-    let higher = pair.higher;
-    if lower.0 != 0 {
-        return Check::Refused(refuse_pair(16, lower.0 as u32, higher.0 as u32));
+    if let Some(pair) = first_sharing(times, plan) {
+        return Err(Refusal::Overlap(pair.lower.0 as u32, pair.higher.0 as u32));
     }
-    let instant = earliest_idle(times, starts, &ready, m);
-    if instant < NEVER {
-        return Check::Refused(refuse_at(17, instant));
+    if let Some(instant) = earliest_idle(times, plan, &ready, m) {
+        return Err(Refusal::Idle(instant));
     }
-    Check::Sound
+    Ok(())
 }
 
-// 13 to 17 of a plan in two rows, or its end.
-fn check_rows(times: &[u16], arrows: &[[u16; 2]], m: u32, procs: &[u8], starts: &[u32]) -> PlanEnd
-    requires { Given times.now arrows.now m procs.now starts.now }
-    ensures { IsChecked times.now arrows.now m (entries procs.now starts.now) result }
-{
-    match check_placing(times, arrows, m, procs, starts) {
-        Check::Refused(refusal) => PlanEnd::Refused(refusal),
-        Check::Sound => {
-            let end = last_end(times, starts) as u32;
-            PlanEnd::Ends(end)
-        }
-    }
-}
-
-// 13 to 17 of the plan that a table holds in its first entries, or its end; the two rows have one place for each subtask.
-fn check_split(
+// The plan check of a plan: its end, or the refusal.
+pub fn check_plan(
     times: &[u16],
     arrows: &[[u16; 2]],
     m: u32,
-    table: [Entry; 256],
-    procs: &mut [u8],
-    starts: &mut [u32],
-) -> PlanEnd
-    requires { Given times.now arrows.now m procs.old starts.old }
-    ensures { IsChecked times.now arrows.now m (take (length times.now) table) result }
+    plan: &[Entry],
+) -> Result<u32, Refusal>
+    ensures { IsChecked times.now arrows.now m plan.now result }
 {
-    split(table, procs, starts);
-    check_rows(times, arrows, m, procs, starts)
-}
-
-// 12 to 17 of a plan of an accepted graph, or its end.
-fn check_entries(
-    times: &[u16],
-    arrows: &[[u16; 2]],
-    m: u32,
-    table: [Entry; 256],
-    n: usize,
-) -> PlanEnd
-    requires { SoundGraph times.now arrows.now × Among 1 16 m }
-    ensures { ChecksTable times.now arrows.now m table n result }
-{
-    if n != times.len() {
-        return PlanEnd::Refused(refuse(12));
+    check_on(times, arrows, m)?;
+    if plan.len() != times.len() {
+        return Err(Refusal::PlanLength);
     }
-    let mut procs = [0u8; 256];
-    let mut starts = [0u32; 256];
-    check_split(times, arrows, m, table, &mut procs[..n], &mut starts[..n])
-}
-
-// The plan check of a plan of n entries, which the table holds where they are at most 256: the plan's end, or the refusal.
-pub fn check_table(
-    times: &[u16],
-    arrows: &[[u16; 2]],
-    m: u32,
-    table: [Entry; 256],
-    n: usize,
-) -> PlanEnd
-    ensures { ChecksTable times.now arrows.now m table n result }
-{
-    match check_on(times, arrows, m) {
-        Check::Refused(refusal) => PlanEnd::Refused(refusal),
-        Check::Sound => check_entries(times, arrows, m, table, n),
-    }
+    check_placing(times, arrows, m, plan)?;
+    Ok(last_end(times, plan) as u32)
 }

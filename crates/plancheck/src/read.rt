@@ -1,30 +1,23 @@
-// How numbers are read out of the rows.
+// How a subtask's entry and its end are read.
 ghost use Rattle.std.specs.Prelude.{◌≡◌, length};
 ghost use Rattle.terms.specs.Graphs.{Among, IsSubtask};
-ghost use Rattle.forms.specs.Forms.{item_of, finish_of};
+ghost use Rattle.terms.specs.Plans.{processor_of, start_of, end_of};
 ghost use Rattle.plancheck.specs.Known.{Timed};
 
 use inputs::time_of;
-use terms::{Processor, Subtask};
+use terms::{Entry, Subtask};
 
-// The processor, the start and the end of subtask j.
-pub fn processor_of(procs: &[u8], j: Subtask) -> Processor
-    requires { Among 1 (length procs.now) j.0 }
-    ensures { result.0 ≡ item_of procs.now j.0 }
+pub fn entry_of(plan: &[Entry], subtask: Subtask) -> Entry
+    requires { Among 1 (length plan.now) subtask.0 }
+    ensures processor { result.processor.0 ≡ processor_of plan.now subtask.0 }
+    ensures start { result.start ≡ start_of plan.now subtask.0 }
 {
-    Processor(procs[j.0 - 1])
+    plan[subtask.0 - 1]
 }
 
-pub fn start_of(starts: &[u32], j: Subtask) -> u32
-    requires { Among 1 (length starts.now) j.0 }
-    ensures { result ≡ item_of starts.now j.0 }
+pub fn end_of(times: &[u16], plan: &[Entry], subtask: Subtask) -> u32
+    requires { IsSubtask times.now subtask.0 × Timed times.now plan.now }
+    ensures { result ≡ end_of times.now plan.now subtask.0 }
 {
-    starts[j.0 - 1]
-}
-
-pub fn end_of(times: &[u16], starts: &[u32], j: Subtask) -> u32
-    requires { IsSubtask times.now j.0 × Timed times.now starts.now }
-    ensures { result ≡ finish_of times.now starts.now j.0 }
-{
-    start_of(starts, j) + time_of(times, j)
+    entry_of(plan, subtask).start + time_of(times, subtask)
 }

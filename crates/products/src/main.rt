@@ -2,76 +2,42 @@
 #![tactic(auto)]
 
 use graph::measure;
-use inputs::u32_from_u16;
 use joins::{end_to_end, nest_figures, side_by_side};
 use std::io;
-use terms::{Counts, Measure};
-
-fn print(rt: &impl Print, text: &[u8]) -> io::Result<()> {
-    rt.write_all(text)
-}
-
-fn print_number(rt: &impl Print, number: u32) -> io::Result<()> {
-    print!(rt; "{number}")
-}
+use terms::{GraphSize, Refusal, Weights};
 
 // C and P, or the number of the refusal.
-fn print_measure(rt: &impl Print, reply: Measure) -> io::Result<()> {
+fn print_measure(rt: &impl Print, reply: Result<Weights, Refusal>) -> io::Result<()> {
     match reply {
-        Measure::Is(weights) => {
-            print(rt, b" C,")?;
-            print_number(rt, weights.c)?;
-            print(rt, b" P,")?;
-            print_number(rt, weights.p)
-        }
-        Measure::Refused(refusal) => {
-            print(rt, b" refused,")?;
-            print_number(rt, refusal.number as u32)
+        Ok(Weights { c, p }) => print!(rt; " C,{c} P,{p}"),
+        Err(refusal) => {
+            let number = refusal.number();
+            print!(rt; " refused,{number}")
         }
     }
 }
 
 // How many subtasks and arrows, or the number of the refusal.
-fn print_counts(rt: &impl Print, reply: Counts) -> io::Result<()> {
+fn print_counts(rt: &impl Print, reply: Result<GraphSize, Refusal>) -> io::Result<()> {
     match reply {
-        Counts::Read(size) => {
-            let subtasks = size.subtasks;
-            let arrows = size.arrows;
-            print!(rt; "{subtasks} subtasks, {arrows} arrows:")
-        }
-        Counts::Refused(refusal) => {
-            print(rt, b"refused,")?;
-            print_number(rt, refusal.number as u32)
+        Ok(GraphSize { subtasks, arrows }) => print!(rt; "{subtasks} subtasks, {arrows} arrows:"),
+        Err(refusal) => {
+            let number = refusal.number();
+            print!(rt; "refused,{number}")
         }
     }
 }
 
-fn print_time(rt: &impl Print, time: u16) -> io::Result<()> {
-    print(rt, b" ")?;
-    print_number(rt, u32_from_u16(time))
-}
-
 fn print_times(rt: &impl Print, times: &[u16]) -> io::Result<()> {
-    let mut i: usize = 0;
-    while i < times.len() {
-        print_time(rt, times[i])?;
-        i += 1;
+    for time in times {
+        print!(rt; " {time}")?;
     }
     Ok(())
 }
 
-fn print_arrow(rt: &impl Print, arrow: [u16; 2]) -> io::Result<()> {
-    print_time(rt, arrow[0])?;
-    print(rt, b" to")?;
-    print_time(rt, arrow[1])
-}
-
 fn print_arrows(rt: &impl Print, arrows: &[[u16; 2]]) -> io::Result<()> {
-    let mut i: usize = 0;
-    while i < arrows.len() {
-        print(rt, b",")?;
-        print_arrow(rt, arrows[i])?;
-        i += 1;
+    for [from, to] in arrows {
+        print!(rt; ", {from} to {to}")?;
     }
     Ok(())
 }
@@ -80,7 +46,7 @@ fn print_arrows(rt: &impl Print, arrows: &[[u16; 2]]) -> io::Result<()> {
 fn behind(rt: &impl Print) -> io::Result<()> {
     let mut times = [7u16; 6];
     let mut arrows = [[7u16; 2]; 8];
-    print(rt, b"15: end to end ")?;
+    print!(rt; "15: end to end ")?;
     print_counts(
         rt,
         end_to_end(
@@ -118,26 +84,26 @@ fn beside(rt: &impl Print, times: &mut [u16], arrows: &mut [[u16; 2]]) -> io::Re
 fn all_beside(rt: &impl Print) -> io::Result<()> {
     let mut times = [7u16; 6];
     let mut arrows = [[7u16; 2]; 4];
-    print(rt, b"\n15: side by side ")?;
+    print!(rt; "\n15: side by side ")?;
     beside(rt, &mut times, &mut arrows)?;
     print_measure(rt, measure(&times, &arrows))?;
     let mut more = [7u16; 7];
     let mut more_arrows = [[7u16; 2]; 5];
-    print(rt, b"\nwith more room ")?;
+    print!(rt; "\nwith more room ")?;
     beside(rt, &mut more, &mut more_arrows)?;
     let mut less_arrows = [[7u16; 2]; 3];
-    print(rt, b"\nwith less ")?;
+    print!(rt; "\nwith less ")?;
     beside(rt, &mut more, &mut less_arrows)
 }
 
 // Example 16: a sequence of the fork and of a group; and what is the writing of no nest.
 fn nests(rt: &impl Print) -> io::Result<()> {
-    print(rt, b"\n16:")?;
+    print!(rt; "\n16:")?;
     print_measure(
         rt,
         nest_figures(&[[1, 2, 0], [0, 6, 5], [2, 2, 0], [0, 15, 11], [0, 6, 5]]),
     )?;
-    print(rt, b"\nno nest:")?;
+    print!(rt; "\nno nest:")?;
     print_measure(rt, nest_figures(&[[0; 3]; 0]))?;
     print_measure(rt, nest_figures(&[[2, 1, 0], [0, 6, 5]]))?;
     print_measure(rt, nest_figures(&[[1, 1, 0], [0, 6, 5], [0, 6, 5]]))?;
@@ -145,7 +111,7 @@ fn nests(rt: &impl Print) -> io::Result<()> {
     print_measure(rt, nest_figures(&[[1, 1, 0], [0, 5, 6]]))?;
     print_measure(rt, nest_figures(&[[1, 17, 0], [0, 6, 5]]))?;
     print_measure(rt, nest_figures(&[[1, 1, 1], [0, 6, 5]]))?;
-    print(rt, b"\n")
+    print!(rt; "\n")
 }
 
 fn main(rt: HostRuntime) -> io::Result<()> {

@@ -1,34 +1,24 @@
 // What the planner says of a text, held to the output that an independent implementation gave for it. A text that reads is written too, and
 // what was written is held to the same output.
+use forms::blank;
 use inputs::order_by_number;
-use listplan::draft_plan;
-use plancheck::check_table;
+use listplan::list_plan;
+use plancheck::check_plan;
+use std::slice::Iter;
 use stg::{read_stg, write_stg};
-use terms::{Counts, Outcome, PlanEnd, Refusal, Verdict, Written};
+use terms::{Refusal, Verdict};
 use verdict::judge;
 
-// A number of a stored output, and the place behind the byte after it.
-#[derive(Clone, Copy)]
-pub struct Stored {
-    pub value: u32,
-    pub next: usize,
-}
-
-fn number_at(output: &[u8], at: usize) -> Stored {
+// The next number of a stored output, up to the byte after it.
+fn next_number(output: &mut Iter<'_, u8>) -> u32 {
     let mut value: u32 = 0;
-    let mut i = at;
-    while i < output.len() {
-        let b = output[i];
-        i += 1;
-        if b < 48 {
-            return Stored { value, next: i };
+    for b in output {
+        if !b.is_ascii_digit() {
+            return value;
         }
-        if 57 < b {
-            return Stored { value, next: i };
-        }
-        value = value % 100000000 * 10 + (b - 48) as u32;
+        value = value % 100000000 * 10 + u32::from(*b - 48);
     }
-    Stored { value, next: i }
+    value
 }
 
 // The figures of one line, as they were stored.
@@ -39,22 +29,15 @@ pub struct Line {
     pub p: u32,
     pub s: u32,
     pub end: u32,
-    pub next: usize,
 }
 
-fn line_at(output: &[u8], at: usize) -> Line {
-    let m = number_at(output, at);
-    let c = number_at(output, m.next);
-    let p = number_at(output, c.next);
-    let s = number_at(output, p.next);
-    let end = number_at(output, s.next);
+fn next_line(output: &mut Iter<'_, u8>) -> Line {
     Line {
-        m: m.value,
-        c: c.value,
-        p: p.value,
-        s: s.value,
-        end: end.value,
-        next: end.next,
+        m: next_number(output),
+        c: next_number(output),
+        p: next_number(output),
+        s: next_number(output),
+        end: next_number(output),
     }
 }
 
@@ -70,84 +53,41 @@ fn sure_end(s: u32, m: u32) -> u32 {
 fn figures_agree(times: &[u16], arrows: &[[u16; 2]], line: Line) -> bool {
     let answer = judge(times, arrows, line.m, 1000);
     let figures = answer.figures;
-    if figures.c != line.c {
+    if figures.c != line.c || figures.p != line.p || figures.s != line.s {
         return false;
     }
-    if figures.p != line.p {
-        return false;
-    }
-    if figures.s != line.s {
-        return false;
-    }
-    let end = sure_end(line.s, line.m);
-    let outcome = answer.outcome;
-    match outcome {
-        Outcome::Refused(_) => false,
-        Outcome::Judged(verdict) => match verdict {
-            Verdict::Fits(spare) => end as u64 + (spare as u64) == 1000,
-            Verdict::Late(shortfall) => end as u64 == 1000 + (shortfall as u64),
-        },
+    let end = u64::from(sure_end(line.s, line.m));
+    match answer.outcome {
+        Ok(Verdict::Fits(spare)) => end + u64::from(spare) == 1000,
+        Ok(Verdict::Late(shortfall)) => end == 1000 + u64::from(shortfall),
+        Err(_) => false,
     }
 }
 
 // The list plan's end, which the plan check gives too.
 fn plan_agrees(times: &[u16], arrows: &[[u16; 2]], line: Line, order: &[u16]) -> bool {
-    let n = times.len();
-    let draft = draft_plan(times, arrows, line.m, order, n);
-    let reply = draft.reply;
-    let entries = draft.entries;
-    match reply {
-        PlanEnd::Refused(_) => false,
-        PlanEnd::Ends(end) => {
-            if end != line.end {
-                return false;
-            }
-            match check_table(times, arrows, line.m, entries, n) {
-                PlanEnd::Refused(_) => false,
-                PlanEnd::Ends(checked) => checked == end,
-            }
-        }
-    }
+    let mut room = blank();
+    let plan = &mut room[..times.len().min(256)];
+    list_plan(times, arrows, line.m, order, plan) == Ok(line.end)
+        && check_plan(times, arrows, line.m, plan) == Ok(line.end)
 }
 
 // The lines for 1 to 4 processors, behind the header.
 fn table_agrees(times: &[u16], arrows: &[[u16; 2]], output: &[u8]) -> bool {
     let all = order_by_number();
     let n = times.len();
-    if 256 < n {
+    if 256 < n || output.len() < 12 {
         return false;
     }
-    let order: &[u16] = &all[..n];
-    let mut at: usize = 12;
-    let mut m: u32 = 1;
-    while m <= 4 {
-        let line = line_at(output, at);
-        if line.m != m {
+    let mut lines = output[12..].iter();
+    for m in 1..=4 {
+        let line = next_line(&mut lines);
+        if line.m != m
+            || !figures_agree(times, arrows, line)
+            || !plan_agrees(times, arrows, line, &all[..n])
+        {
             return false;
         }
-        if !figures_agree(times, arrows, line) {
-            return false;
-        }
-        if !plan_agrees(times, arrows, line, order) {
-            return false;
-        }
-        at = line.next;
-        m += 1;
-    }
-    true
-}
-
-// Whether two rows of times are the same.
-fn same_times(times: &[u16], others: &[u16]) -> bool {
-    if times.len() != others.len() {
-        return false;
-    }
-    let mut i: usize = 0;
-    while i < times.len() {
-        if times[i] != others[i] {
-            return false;
-        }
-        i += 1;
     }
     true
 }
@@ -160,13 +100,7 @@ fn again_agrees(
     arrows: &[[u16; 2]],
     output: &[u8],
 ) -> bool {
-    if arrows.len() != count {
-        return false;
-    }
-    if !same_times(times, again) {
-        return false;
-    }
-    table_agrees(again, arrows, output)
+    arrows.len() == count && times == again && table_agrees(again, arrows, output)
 }
 
 // The same of its text.
@@ -174,12 +108,14 @@ fn reads_as(text: &[u8], times: &[u16], count: usize, output: &[u8]) -> bool {
     let mut again = [0u16; 256];
     let mut arrows = [[0u16; 2]; 2048];
     match read_stg(text, &mut again, &mut arrows) {
-        Counts::Refused(_) => false,
-        Counts::Read(size) => {
-            let subtasks = size.subtasks;
-            let many = size.arrows;
-            again_agrees(times, count, &again[..subtasks], &arrows[..many], output)
-        }
+        Ok(size) => again_agrees(
+            times,
+            count,
+            &again[..size.subtasks],
+            &arrows[..size.arrows],
+            output,
+        ),
+        Err(_) => false,
     }
 }
 
@@ -187,34 +123,22 @@ fn reads_as(text: &[u8], times: &[u16], count: usize, output: &[u8]) -> bool {
 fn written_agrees(times: &[u16], arrows: &[[u16; 2]], output: &[u8]) -> bool {
     let mut text = [0u8; 12422];
     match write_stg(times, arrows, &mut text) {
-        Written::Refused(_) => false,
-        Written::Bytes(size) => {
-            if 12422 < size {
-                return false;
-            }
-            reads_as(&text[..size], times, arrows.len(), output)
-        }
+        Ok(size) => size <= 12422 && reads_as(&text[..size], times, arrows.len(), output),
+        Err(_) => false,
     }
 }
 
 // What is said of the graph, and of the graph written and read again.
 fn graph_agrees(times: &[u16], arrows: &[[u16; 2]], output: &[u8]) -> bool {
-    if !table_agrees(times, arrows, output) {
-        return false;
-    }
-    written_agrees(times, arrows, output)
+    table_agrees(times, arrows, output) && written_agrees(times, arrows, output)
 }
 
 // "refused," and the number.
 fn refusal_agrees(refusal: Refusal, output: &[u8]) -> bool {
-    if output.len() < 9 {
+    if output.len() < 9 || output[0] != b'r' {
         return false;
     }
-    if output[0] != b'r' {
-        return false;
-    }
-    let stored = number_at(output, 8);
-    stored.value == refusal.number as u32
+    next_number(&mut output[8..].iter()) == u32::from(refusal.number())
 }
 
 // Whether the planner says of the text what the stored output says.
@@ -222,11 +146,7 @@ pub fn agrees(text: &[u8], output: &[u8]) -> bool {
     let mut times = [0u16; 256];
     let mut arrows = [[0u16; 2]; 2048];
     match read_stg(text, &mut times, &mut arrows) {
-        Counts::Refused(refusal) => refusal_agrees(refusal, output),
-        Counts::Read(size) => {
-            let subtasks = size.subtasks;
-            let count = size.arrows;
-            graph_agrees(&times[..subtasks], &arrows[..count], output)
-        }
+        Ok(size) => graph_agrees(&times[..size.subtasks], &arrows[..size.arrows], output),
+        Err(refusal) => refusal_agrees(refusal, output),
     }
 }

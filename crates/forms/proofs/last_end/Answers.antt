@@ -1,42 +1,24 @@
--- `last_end`: the largest end of the subtasks that both rows have. Assumes nothing.
-use mathlib.Core.Path.{◌≡◌, refl}
-use mathlib.Core.List.{List}
-use Prim.Native.Nat.{ℕ, suc, ◌+◌, ◌-◌, ◌≤◌, ◌<◌, min, max}
-use native.Mathlib.Omega.{arith}
-use lib.ListN.{length, get_or}
-use Rattle.inputs.specs.Lent.{IsTimeOf}
-use Rattle.forms.specs.Forms.{item_of, finish_of, last_end}
-use Rattle.forms.proofs.last_end.Invariants.{EndSoFar}
+-- `last_end`: the largest end of the subtasks that came so far. Assumes nothing.
+use Rattle.std.proofs.Common.{refl, length, length-append, rules}
+use Rattle.std.proofs.lemmas.Slice.Zip.{zip_turn, zip_end}
+use Rattle.terms.specs.Plans.{not_placed}
+use Rattle.forms.specs.Forms.{last_end}
+use Rattle.forms.proofs.PlanEnds.{last_more}
 use Rattle.forms.proofs.last_end.Goals as goal
 
-module _ {times starts : List ℕ} {end i : ℕ} (far : EndSoFar times starts end i) where
-  more : {time e f : ℕ} → i < length times → i < length starts → IsTimeOf times (i + 1) time → e ≡ get_or starts i 0 + time → f ≡ max end e
-      → EndSoFar times starts f (i + 1)
-  unfolding last_end finish_of item_of
-  more l m t p q =
-      let k : i + 1 ≡ suc i = omega arith in
-      let x : suc i - 1 ≡ i = omega arith in record {
-        in_times = omega arith;
-        in_starts = omega arith;
-        largest = rw k (rw x (omega (arith, far.largest, p, q, rw k at (t.is (record { low = omega arith; high = omega arith })))));
-      }
-
-  all : min (length times) (length starts) ≤ i → end ≡ last_end times starts (min (length times) (length starts))
-  all l =
-      let e : i ≡ min (length times) (length starts) = omega (arith, far.in_times, far.in_starts) in
-      rw e at far.largest
-
-pub loop-i-init : goal.loop-i-init
+pub loop-time-init : goal.loop-time-init
 unfolding last_end
-loop-i-init c = record { in_times = omega arith; in_starts = omega arith; largest = refl }
+loop-time-init c = refl
 
-pub returns-then-starts-i : goal.returns-then-starts-i
-returns-then-starts-i c = all c.loop-i.invariant (omega (arith, c.if-starts-i.true))
-
-pub loop-i-preserved : goal.loop-i-preserved
-loop-i-preserved c =
-    more c.loop-i.invariant (omega arith) (omega arith) c.time_of-time.ensures
-    c.end_of.ensures c.later-end.ensures
+pub loop-time-preserved : goal.loop-time-preserved
+loop-time-preserved c =
+    let turn = zip_turn c.args.times.now c.args.plan.now c.loop-time.yielded c.into_iter-time-iterator.result c.loop-time.time-iterator c.next.new.self c.next.result
+    (search rules) (search rules) c.loop-time.yielded_by (c.in-Some.time, c.in-Some.entry) c.in-Some.is c.next.ensures.steps in
+    let more = last_more c.args.times.now c.args.plan.now (length c.loop-time.yielded) _ _ (turn.2 0) (turn.3 not_placed) in
+    rw (length-append, c.max-end.ensures, c.loop-time.invariant, c.from.ensures, c.from-in-loop-time.ensures) more
 
 pub returns : goal.returns
-returns c = all c.loop-i.invariant (omega (arith, c.loop-i-test.false))
+returns c =
+    let end = zip_end c.args.times.now c.args.plan.now c.loop-time.yielded c.into_iter-time-iterator.result c.loop-time.time-iterator c.next.new.self c.next.result
+    (search rules) (search rules) c.loop-time.yielded_by c.in-None.is c.next.ensures.steps in
+    rw (← end) c.loop-time.invariant

@@ -15,13 +15,13 @@ refuse_ends-requires c = record { few = few _ _ c.requires.accepted; wrong = c.i
 pub returns-then-not-all_join_two : goal.returns-then-not-all_join_two
 returns-then-not-all_join_two c = refused (refused_ends _ _ c.refuse_ends.ensures)
 
-pub chain-requires : goal.chain-requires
-chain-requires c =
+pub link-requires : goal.link-requires
+link-requires c =
     let joins : Joined c.args.times.now c.args.arrows.now = joined _ _ c.requires.accepted c.if-not-all_join_two.ensures in
-    record { tidy = joins.tidy; first_value = (c.requires.first_value.0, c.requires.first_value.1) }
+    record { tidy = joins.tidy; empty = c.requires.empty.0 }
 
-pub first_repeat-requires-clause-tidy : goal.first_repeat-requires-clause-tidy
-first_repeat-requires-clause-tidy c = (joined _ _ c.requires.accepted c.if-not-all_join_two.ensures).tidy
+pub invariant_of-graph : goal.invariant_of-graph
+invariant_of-graph c = record { tidy = (joined _ _ c.requires.accepted c.if-not-all_join_two.ensures).tidy; linked = c.link.ensures }
 
 pub position_of-requires : goal.position_of-requires
 position_of-requires c = found_small c.args.arrows.now _ _ (few _ _ c.requires.accepted).1 c.in-Some.ensures
@@ -31,19 +31,14 @@ returns-in-Some c =
     let joins : Joined c.args.times.now c.args.arrows.now = joined _ _ c.requires.accepted c.if-not-all_join_two.ensures in
     rw c.position_of.ensures (refused (refused_6 _ _ joins _ c.in-Some.ensures))
 
-pub order_subtasks-requires-clause-tidy : goal.order_subtasks-requires-clause-tidy
-order_subtasks-requires-clause-tidy c = (joined _ _ c.requires.accepted c.if-not-all_join_two.ensures).tidy
-
 pub returns-in-Ok : goal.returns-in-Ok
 returns-in-Ok c =
     let joins : Joined c.args.times.now c.args.arrows.now = joined _ _ c.requires.accepted c.if-not-all_join_two.ensures in
     let once : Before 7 (arrow_rows c.args.times.now c.args.arrows.now) = before_7 _ _ joins c.in_default.ensures in
-    sound (accepted _ _ once joins.tidy c.in-Ok.ensures) c.chain.ensures c.in-Ok.ensures
+    sound (accepted _ _ once joins.tidy c.in-Ok.ensures) c.link.ensures c.in-Ok.ensures
 
 pub lowest_on_cycle-requires : goal.lowest_on_cycle-requires
-lowest_on_cycle-requires c =
-    let joins : Joined c.args.times.now c.args.arrows.now = joined _ _ c.requires.accepted c.if-not-all_join_two.ensures in
-    record { tidy = joins.tidy; chains = c.chain.ensures; among = (c.in-Err.ensures.is, c.in-Err.ensures.below) }
+lowest_on_cycle-requires c = (c.in-Err.ensures.is, c.in-Err.ensures.below)
 
 -- a subtask's number is no larger than 256
 pub overflow_cast-result : goal.overflow_cast-result

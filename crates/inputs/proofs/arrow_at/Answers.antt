@@ -1,9 +1,6 @@
 -- `arrow_at`: the arrow at a place has the two ends that the row holds there, and 0 outside the row. Assumes nothing.
-use mathlib.Core.Path.{◌≡◌, sym, ap}
-use mathlib.Core.List.{List, []}
-use Prim.Native.Nat.{ℕ}
-use lib.ListN.{get_or, get_or-eq_default}
-use native.Mathlib.Omega.{arith}
+use Rattle.std.proofs.Common.{arith, ◌≡◌, sym, ap, ℕ, List, [], get_or}
+use Rattle.std.proofs.Math.ListN.{get_or-eq_default}
 use Rattle.terms.specs.Graphs.{from_of, to_of}
 use Rattle.inputs.proofs.arrow_at.Goals as goal
 
@@ -21,9 +18,4 @@ returns-then-arrows-place c = record {
 
 pub returns : goal.returns
 unfolding from_of to_of
-returns c = record {
-  begins = c.usize_from_u16.ensures.0;
-  begins_small = c.usize_from_u16.ensures.1;
-  arrives = c.usize_from_u16-2.ensures.0;
-  arrives_small = c.usize_from_u16-2.ensures.1;
-}
+returns c = record { begins = c.from.ensures; begins_small = omega arith; arrives = c.from-2.ensures; arrives_small = omega arith }

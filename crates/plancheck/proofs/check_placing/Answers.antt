@@ -1,198 +1,101 @@
--- `check_placing`: the first row of 13 to 17 that holds of a plan in two rows. Assumes nothing.
-use mathlib.Core.Path.{refl}
-use Prim.Native.Nat.{◌-◌, ◌≤◌}
-use native.Mathlib.Omega.{arith}
-use Rattle.terms.specs.Graphs.{time_of}
+-- `check_placing`: the first row of 13 to 17 that holds of a plan. Assumes nothing.
+use Rattle.std.proofs.Common.{arith}
 use Rattle.terms.specs.Replies.{IsCheck}
+use Rattle.terms.proofs.Decisions.{told}
+use Rattle.theory.specs.First.{IsFirstSubtask}
 use Rattle.theory.proofs.Firsts.{shown}
-use Rattle.theory.proofs.SoundPlans.{SoundPlan}
-use Rattle.forms.specs.Forms.{entries}
 use Rattle.plancheck.specs.Known.{Timed}
+use Rattle.plancheck.specs.Scans.{FirstClash}
 use Rattle.plancheck.specs.Sweeps.{ApartAndBusy}
 use Rattle.plancheck.proofs.SubtaskTests.{Prepared, answer_13, placed_by, answer_14, timed_by, answer_15, prepared_by}
 use Rattle.plancheck.proofs.ProcessorTests.{answer_16, sound_pairs, answer_17, busy_instants, sweepable, busy_swept, accepted_busy}
 use Rattle.plancheck.proofs.check_placing.Goals as goal
+use Rattle.plancheck.proofs.check_placing.Goals.{In_default-first_late, In_default-first_early, In_default-first_sharing}
 
-pub overflow_cast-misplaced : goal.overflow_cast-misplaced
-overflow_cast-misplaced c =
-    omega (arith, c.first_misplaced-misplaced.ensures.within, c.requires.long_procs, c.requires.graph.count.high)
+-- after 14
+timed : (c : In_default-first_late) → Timed c.args.times.now c.args.plan.now
+timed c = timed_by c.requires (rw c.in_default-first_late.is at c.first_late.ensures)
 
-pub returns-then-misplaced-ne0 : goal.returns-then-misplaced-ne0
+-- after 15
+known : (c : In_default-first_early) → Prepared c.args.times.now c.args.arrows.now c.args.m c.args.plan.now c.latest_ends-ready.result
+known c = prepared_by c.requires (placed_by c.requires (rw c.in_default.is at c.first_misplaced.ensures))
+    (timed_by c.requires (rw c.in_default-first_late.is at c.first_late.ensures)) c.latest_ends-ready.ensures (rw c.in_default-first_early.is at c.first_early.ensures)
+
+pub returns-in-Some : goal.returns-in-Some
 unfolding IsCheck
-returns-then-misplaced-ne0 c =
-    answer_13 c.requires c.first_misplaced-misplaced.ensures c.if-misplaced-ne0.true c.refuse_at.ensures
+returns-in-Some c = answer_13 c.requires (rw c.in-Some.is at c.first_misplaced.ensures) told
 
-pub overflow_cast-late : goal.overflow_cast-late
-overflow_cast-late c =
-    omega (arith, c.first_late-late.ensures.within, c.requires.long_starts, c.requires.graph.count.high)
-
-pub returns-then-late-ne0 : goal.returns-then-late-ne0
+pub returns-in-Some-first_late : goal.returns-in-Some-first_late
 unfolding IsCheck
-returns-then-late-ne0 c =
-    let c_placed = placed_by c.requires c.first_misplaced-misplaced.ensures c.if-misplaced-ne0.false in
-    answer_14 c.requires c_placed c.first_late-late.ensures c.if-late-ne0.true c.refuse_at-then-late-ne0.ensures
+returns-in-Some-first_late c =
+    answer_14 c.requires (placed_by c.requires (rw c.in_default.is at c.first_misplaced.ensures)) (rw c.in-Some-first_late.is at c.first_late.ensures)
+    told
 
-pub latest_ends-requires : goal.latest_ends-requires
-latest_ends-requires c =
-    -- after 14
-    let timed : Timed c.args.times.now c.args.starts.now =
-    let c_placed = placed_by c.requires c.first_misplaced-misplaced.ensures c.if-misplaced-ne0.false in
-    timed_by c.requires c_placed c.first_late-late.ensures c.if-late-ne0.false in
-    (c.requires.graph, timed, refl)
+pub latest_ends-ready-requires : goal.latest_ends-ready-requires
+latest_ends-ready-requires c = (c.requires.graph, timed (goal.at.latest_ends-ready-requires c).In_default-first_late)
 
-pub first_early-early-requires : goal.first_early-early-requires
-first_early-early-requires c =
-    (omega (arith, c.requires.long_starts, c.requires.graph.count.high), c.latest_ends.ensures.long)
-
-pub overflow_cast-early : goal.overflow_cast-early
-overflow_cast-early c =
-    -- after 14
-    let timed : Timed c.args.times.now c.args.starts.now =
-    let c_placed = placed_by c.requires c.first_misplaced-misplaced.ensures c.if-misplaced-ne0.false in
-    timed_by c.requires c_placed c.first_late-late.ensures c.if-late-ne0.false in
-    omega (arith, c.first_early-early.ensures.within, timed.long, timed.few)
-
-pub returns-then-early-ne0 : goal.returns-then-early-ne0
+pub returns-in-Some-first_early : goal.returns-in-Some-first_early
 unfolding IsCheck
-returns-then-early-ne0 c =
-    -- after 14
-    let timed : Timed c.args.times.now c.args.starts.now =
-    let c_placed = placed_by c.requires c.first_misplaced-misplaced.ensures c.if-misplaced-ne0.false in
-    timed_by c.requires c_placed c.first_late-late.ensures c.if-late-ne0.false in
-    let c_placed = placed_by c.requires c.first_misplaced-misplaced.ensures c.if-misplaced-ne0.false in
-    answer_15 c.requires c_placed timed c.latest_ends.ensures c.first_early-early.ensures c.if-early-ne0.true c.refuse_at-then-early-ne0.ensures
+returns-in-Some-first_early c =
+    answer_15 c.requires (placed_by c.requires (rw c.in_default.is at c.first_misplaced.ensures)) (timed (goal.at.returns-in-Some-first_early c).In_default-first_late)
+    c.latest_ends-ready.ensures (rw c.in-Some-first_early.is at c.first_early.ensures) told
 
 pub passes_sweep-requires : goal.passes_sweep-requires
-passes_sweep-requires c =
-    -- after 14
-    let timed : Timed c.args.times.now c.args.starts.now =
-    let c_placed = placed_by c.requires c.first_misplaced-misplaced.ensures c.if-misplaced-ne0.false in
-    timed_by c.requires c_placed c.first_late-late.ensures c.if-late-ne0.false in
-    -- after 15
-    let known : Prepared c.args.times.now c.args.arrows.now c.args.m c.args.procs.now c.args.starts.now c.latest_ends.new.ready =
-    let c_placed = placed_by c.requires c.first_misplaced-misplaced.ensures c.if-misplaced-ne0.false in
-    prepared_by c.requires c_placed timed c.latest_ends.ensures c.first_early-early.ensures c.if-early-ne0.false in
-    sweepable known
+passes_sweep-requires c = sweepable (known (goal.at.passes_sweep-requires c).In_default-first_early)
 
 pub returns-then-passes_sweep : goal.returns-then-passes_sweep
 unfolding IsCheck
 returns-then-passes_sweep c =
-    -- after 14
-    let timed : Timed c.args.times.now c.args.starts.now =
-    let c_placed = placed_by c.requires c.first_misplaced-misplaced.ensures c.if-misplaced-ne0.false in
-    timed_by c.requires c_placed c.first_late-late.ensures c.if-late-ne0.false in
-    -- after 15
-    let known : Prepared c.args.times.now c.args.arrows.now c.args.m c.args.procs.now c.args.starts.now c.latest_ends.new.ready =
-    let c_placed = placed_by c.requires c.first_misplaced-misplaced.ensures c.if-misplaced-ne0.false in
-    prepared_by c.requires c_placed timed c.latest_ends.ensures c.first_early-early.ensures c.if-early-ne0.false in
-    -- what a sweep that comes to its end shows
-    let swept : ApartAndBusy c.args.times.now c.args.m c.args.procs.now c.args.starts.now c.latest_ends.new.ready =
-    shown c.if-passes_sweep.true c.passes_sweep.ensures in
-    accepted_busy known (busy_swept known swept)
+    let before = known (goal.at.returns-then-passes_sweep c).In_default-first_early in
+    let swept : ApartAndBusy c.args.times.now c.args.m c.args.plan.now c.latest_ends-ready.result = shown c.if-passes_sweep.true c.passes_sweep.ensures in
+    accepted_busy before (busy_swept before swept)
 
-pub first_sharing-pair-requires : goal.first_sharing-pair-requires
-first_sharing-pair-requires c =
-    -- after 14
-    let timed : Timed c.args.times.now c.args.starts.now =
-    let c_placed = placed_by c.requires c.first_misplaced-misplaced.ensures c.if-misplaced-ne0.false in
-    timed_by c.requires c_placed c.first_late-late.ensures c.if-late-ne0.false in
-    -- after 15
-    let known : Prepared c.args.times.now c.args.arrows.now c.args.m c.args.procs.now c.args.starts.now c.latest_ends.new.ready =
-    let c_placed = placed_by c.requires c.first_misplaced-misplaced.ensures c.if-misplaced-ne0.false in
-    prepared_by c.requires c_placed timed c.latest_ends.ensures c.first_early-early.ensures c.if-early-ne0.false in
-    (known.timed, known.given.long_procs)
+pub first_sharing-requires : goal.first_sharing-requires
+first_sharing-requires c = timed (goal.at.first_sharing-requires c).In_default-first_late
 
-pub overflow_cast-lower : goal.overflow_cast-lower
-overflow_cast-lower c =
-    -- after 14
-    let timed : Timed c.args.times.now c.args.starts.now =
-    let c_placed = placed_by c.requires c.first_misplaced-misplaced.ensures c.if-misplaced-ne0.false in
-    timed_by c.requires c_placed c.first_late-late.ensures c.if-late-ne0.false in
-    -- after 15
-    let known : Prepared c.args.times.now c.args.arrows.now c.args.m c.args.procs.now c.args.starts.now c.latest_ends.new.ready =
-    let c_placed = placed_by c.requires c.first_misplaced-misplaced.ensures c.if-misplaced-ne0.false in
-    prepared_by c.requires c_placed timed c.latest_ends.ensures c.first_early-early.ensures c.if-early-ne0.false in
-    -- both numbers of the pair are those of subtasks
-    let few : (c.first_sharing-pair.result.lower.0 ≤ 256) × (c.first_sharing-pair.result.higher.0 ≤ 256) =
-    let c_few = known.timed.few in
-    let c_higher = c.first_sharing-pair.ensures.first_higher (omega (arith, c.if-lower-ne0.true)) in
-    (omega (arith, c.first_sharing-pair.ensures.first_lower.within, c_few), omega (arith, c_higher.0.within, c_few)) in
-    omega (arith, few)
-
-pub overflow_cast-higher : goal.overflow_cast-higher
-overflow_cast-higher c =
-    -- after 14
-    let timed : Timed c.args.times.now c.args.starts.now =
-    let c_placed = placed_by c.requires c.first_misplaced-misplaced.ensures c.if-misplaced-ne0.false in
-    timed_by c.requires c_placed c.first_late-late.ensures c.if-late-ne0.false in
-    -- after 15
-    let known : Prepared c.args.times.now c.args.arrows.now c.args.m c.args.procs.now c.args.starts.now c.latest_ends.new.ready =
-    let c_placed = placed_by c.requires c.first_misplaced-misplaced.ensures c.if-misplaced-ne0.false in
-    prepared_by c.requires c_placed timed c.latest_ends.ensures c.first_early-early.ensures c.if-early-ne0.false in
-    -- both numbers of the pair are those of subtasks
-    let few : (c.first_sharing-pair.result.lower.0 ≤ 256) × (c.first_sharing-pair.result.higher.0 ≤ 256) =
-    let c_few = known.timed.few in
-    let c_higher = c.first_sharing-pair.ensures.first_higher (omega (arith, c.if-lower-ne0.true)) in
-    (omega (arith, c.first_sharing-pair.ensures.first_lower.within, c_few), omega (arith, c_higher.0.within, c_few)) in
-    omega (arith, few)
-
-pub returns-then-lower-ne0 : goal.returns-then-lower-ne0
+pub returns-in-Some-first_sharing : goal.returns-in-Some-first_sharing
 unfolding IsCheck
-returns-then-lower-ne0 c =
-    -- after 14
-    let timed : Timed c.args.times.now c.args.starts.now =
-    let c_placed = placed_by c.requires c.first_misplaced-misplaced.ensures c.if-misplaced-ne0.false in
-    timed_by c.requires c_placed c.first_late-late.ensures c.if-late-ne0.false in
-    -- after 15
-    let known : Prepared c.args.times.now c.args.arrows.now c.args.m c.args.procs.now c.args.starts.now c.latest_ends.new.ready =
-    let c_placed = placed_by c.requires c.first_misplaced-misplaced.ensures c.if-misplaced-ne0.false in
-    prepared_by c.requires c_placed timed c.latest_ends.ensures c.first_early-early.ensures c.if-early-ne0.false in
-    answer_16 known _ c.first_sharing-pair.ensures c.if-lower-ne0.true c.refuse_pair.ensures
+returns-in-Some-first_sharing c =
+    answer_16 (known (goal.at.returns-in-Some-first_sharing c).In_default-first_early) (rw c.in-Some-first_sharing.is at c.first_sharing.ensures) told
 
-pub earliest_idle-instant-requires : goal.earliest_idle-instant-requires
-earliest_idle-instant-requires c =
-    -- after 14
-    let timed : Timed c.args.times.now c.args.starts.now =
-    let c_placed = placed_by c.requires c.first_misplaced-misplaced.ensures c.if-misplaced-ne0.false in
-    timed_by c.requires c_placed c.first_late-late.ensures c.if-late-ne0.false in
-    -- after 15
-    let known : Prepared c.args.times.now c.args.arrows.now c.args.m c.args.procs.now c.args.starts.now c.latest_ends.new.ready =
-    let c_placed = placed_by c.requires c.first_misplaced-misplaced.ensures c.if-misplaced-ne0.false in
-    prepared_by c.requires c_placed timed c.latest_ends.ensures c.first_early-early.ensures c.if-early-ne0.false in
-    (known.timed, known.row.long)
+pub earliest_idle-requires : goal.earliest_idle-requires
+earliest_idle-requires c = (timed (goal.at.earliest_idle-requires c).In_default-first_late, c.latest_ends-ready.ensures.long)
 
-pub returns-then-instant-lt-NEVER : goal.returns-then-instant-lt-NEVER
+pub returns-in-Some-earliest_idle : goal.returns-in-Some-earliest_idle
 unfolding IsCheck
-returns-then-instant-lt-NEVER c =
-    -- after 14
-    let timed : Timed c.args.times.now c.args.starts.now =
-    let c_placed = placed_by c.requires c.first_misplaced-misplaced.ensures c.if-misplaced-ne0.false in
-    timed_by c.requires c_placed c.first_late-late.ensures c.if-late-ne0.false in
-    -- after 15
-    let known : Prepared c.args.times.now c.args.arrows.now c.args.m c.args.procs.now c.args.starts.now c.latest_ends.new.ready =
-    let c_placed = placed_by c.requires c.first_misplaced-misplaced.ensures c.if-misplaced-ne0.false in
-    prepared_by c.requires c_placed timed c.latest_ends.ensures c.first_early-early.ensures c.if-early-ne0.false in
-    -- after 16
-    let sound : SoundPlan c.args.times.now c.args.arrows.now c.args.m (entries c.args.procs.now c.args.starts.now) =
-    sound_pairs known _ c.first_sharing-pair.ensures c.if-lower-ne0.false in
-    let known = known in
-    answer_17 known sound _ c.earliest_idle-instant.ensures c.if-instant-lt-NEVER.true c.refuse_at-then-instant-lt-NEVER.ensures
+returns-in-Some-earliest_idle c =
+    let before = known (goal.at.returns-in-Some-earliest_idle c).In_default-first_early in
+    answer_17 before (sound_pairs before (rw c.in_default-first_sharing.is at c.first_sharing.ensures)) (rw c.in-Some-earliest_idle.is at c.earliest_idle.ensures)
+    told
 
 pub returns : goal.returns
-unfolding IsCheck time_of
+unfolding IsCheck
 returns c =
-    -- after 14
-    let timed : Timed c.args.times.now c.args.starts.now =
-    let c_placed = placed_by c.requires c.first_misplaced-misplaced.ensures c.if-misplaced-ne0.false in
-    timed_by c.requires c_placed c.first_late-late.ensures c.if-late-ne0.false in
-    -- after 15
-    let known : Prepared c.args.times.now c.args.arrows.now c.args.m c.args.procs.now c.args.starts.now c.latest_ends.new.ready =
-    let c_placed = placed_by c.requires c.first_misplaced-misplaced.ensures c.if-misplaced-ne0.false in
-    prepared_by c.requires c_placed timed c.latest_ends.ensures c.first_early-early.ensures c.if-early-ne0.false in
-    -- after 16
-    let sound : SoundPlan c.args.times.now c.args.arrows.now c.args.m (entries c.args.procs.now c.args.starts.now) =
-    sound_pairs known _ c.first_sharing-pair.ensures c.if-lower-ne0.false in
-    let known = known in
-    accepted_busy known
-    (busy_instants known sound _ c.earliest_idle-instant.ensures
-    (λ j s. omega (arith, c.shared_slice_known-1.given (j - 1))) c.if-instant-lt-NEVER.false)
+    let before = known (goal.at.returns c).In_default-first_early in
+    accepted_busy before
+    (busy_instants before (sound_pairs before (rw c.in_default-first_sharing.is at c.first_sharing.ensures)) (rw c.in_default-earliest_idle.is at c.earliest_idle.ensures))
+
+pub overflow_cast-result : goal.overflow_cast-result
+unfolding IsFirstSubtask
+overflow_cast-result c =
+    let first = rw c.in-Some.is at c.first_misplaced.ensures in omega (arith, first.0.high)
+
+pub overflow_cast-result-in-Some-first_late : goal.overflow_cast-result-in-Some-first_late
+unfolding IsFirstSubtask
+overflow_cast-result-in-Some-first_late c =
+    let first = rw c.in-Some-first_late.is at c.first_late.ensures in omega (arith, first.0.high)
+
+pub overflow_cast-result-in-Some-first_early : goal.overflow_cast-result-in-Some-first_early
+unfolding IsFirstSubtask
+overflow_cast-result-in-Some-first_early c =
+    let first = rw c.in-Some-first_early.is at c.first_early.ensures in omega (arith, first.0.high)
+
+pub overflow_cast-result-in-Some-first_sharing : goal.overflow_cast-result-in-Some-first_sharing
+unfolding FirstClash IsFirstSubtask
+overflow_cast-result-in-Some-first_sharing c =
+    let first = rw c.in-Some-first_sharing.is at c.first_sharing.ensures in omega (arith, first.0.0.high)
+
+pub overflow_cast-result-in-Some-first_sharing-2 : goal.overflow_cast-result-in-Some-first_sharing-2
+unfolding FirstClash IsFirstSubtask
+overflow_cast-result-in-Some-first_sharing-2 c =
+    let first = rw c.in-Some-first_sharing.is at c.first_sharing.ensures in omega (arith, first.1.0.high)

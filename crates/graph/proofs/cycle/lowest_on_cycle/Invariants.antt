@@ -4,4 +4,4 @@ use Rattle.terms.specs.Graphs.{LeadsTo}
 use Rattle.graph.proofs.cycle.lowest_on_cycle.Given as goal
 
 abbrev pub invariant-loop-j : goal.invariant-loop-j
-invariant-loop-j l = (k : ℕ) → k < l.j → ¬ LeadsTo l.initial.arrows k k
+invariant-loop-j l = (k : ℕ) → k < l.j → ¬ LeadsTo l.initial.graph.arrows.now k k

@@ -3,10 +3,10 @@ use Rattle.graph.proofs.RepeatedArrows.{Before, Met}
 use Rattle.graph.proofs.scan.first_repeat.Given as goal
 
 abbrev pub invariant-loop-v : goal.invariant-loop-v
-invariant-loop-v l = Before l.initial.arrows l.seen l.met l.found l.v
+invariant-loop-v l = Before l.initial.graph.arrows.now l.seen l.met l.found l.v
 
 abbrev pub invariant-loop-c : goal.invariant-loop-c
-invariant-loop-c l = Met l.initial.arrows l.seen l.met l.found l.v l.c
+invariant-loop-c l = Met l.initial.graph.arrows.now l.seen l.met l.found l.v l.c
 
 abbrev pub decreases-loop-c : goal.decreases-loop-c
 decreases-loop-c l = l.c

@@ -1,35 +1,25 @@
 -- `check_both`: 1 to 7 of the first, then of the second, then 30. Assumes nothing.
+use Rattle.std.proofs.lemmas.Result.{err_from_is_err_and}
 use Rattle.terms.specs.Replies.{IsCheck}
 use Rattle.joins.proofs.Answered.{first_refuses, second_refuses, too_many, both_accepted}
 use Rattle.joins.proofs.checks.check_both.Goals as goal
 
-pub check-requires : goal.check-requires
-check-requires c = tt
-
-pub check-requires-in-Sound : goal.check-requires-in-Sound
-check-requires-in-Sound c = tt
-
-pub refuse-requires : goal.refuse-requires
-refuse-requires c = tt
-
-pub returns-then-first_times-second_times-gt-MOST_SUBTASKS : goal.returns-then-first_times-second_times-gt-MOST_SUBTASKS
+pub returns-in_err-check : goal.returns-in_err-check
 unfolding IsCheck
-returns-then-first_times-second_times-gt-MOST_SUBTASKS c =
-    too_many _ _ _ (rw c.in-Sound.is at c.check.ensures)
-    (rw c.in-Sound-check.is at c.check-in-Sound.ensures) c.if-first_times-second_times-gt-MOST_SUBTASKS.true c.refuse.ensures
+returns-in_err-check c =
+    let p = err_from_is_err_and c.from_residual.result c.from_residual.ensures.1 in rw (p.1, p.2) (first_refuses _ _ _ c.in_err-check.ensures)
 
-pub returns-in-Refused : goal.returns-in-Refused
+pub returns-in_err-check-2 : goal.returns-in_err-check-2
 unfolding IsCheck
-returns-in-Refused c = first_refuses _ _ _ (rw c.in-Refused.is at c.check.ensures)
+returns-in_err-check-2 c =
+    let p = err_from_is_err_and c.from_residual-in_err-check-2.result c.from_residual-in_err-check-2.ensures.1 in
+    rw (p.1, p.2) (second_refuses _ _ _ c.in_ok-check.ensures c.in_err-check-2.ensures)
 
-pub returns-in-Refused-check : goal.returns-in-Refused-check
+pub returns-then-first-second-gt-MOST_SUBTASKS : goal.returns-then-first-second-gt-MOST_SUBTASKS
 unfolding IsCheck
-returns-in-Refused-check c =
-    second_refuses _ _ _ (rw c.in-Sound.is at c.check.ensures)
-    (rw c.in-Refused-check.is at c.check-in-Sound.ensures)
+returns-then-first-second-gt-MOST_SUBTASKS c =
+    too_many _ _ c.in_ok-check.ensures c.in_ok-check-2.ensures c.if-first-second-gt-MOST_SUBTASKS.true
 
-pub returns-else-first_times-second_times-gt-MOST_SUBTASKS : goal.returns-else-first_times-second_times-gt-MOST_SUBTASKS
+pub returns : goal.returns
 unfolding IsCheck
-returns-else-first_times-second_times-gt-MOST_SUBTASKS c =
-    both_accepted _ _ (rw c.in-Sound.is at c.check.ensures)
-    (rw c.in-Sound-check.is at c.check-in-Sound.ensures) c.if-first_times-second_times-gt-MOST_SUBTASKS.false
+returns c = both_accepted _ _ c.in_ok-check.ensures c.in_ok-check-2.ensures c.if-first-second-gt-MOST_SUBTASKS.false

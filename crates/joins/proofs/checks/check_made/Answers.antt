@@ -1,31 +1,21 @@
 -- `check_made`: the answer of the rows 31 and 11. Assumes nothing.
+use Rattle.std.proofs.Common.{arith}
 use mathlib.Core.Logic.{inl, inr, ⊎_elim}
-use native.Mathlib.Omega.{arith}
 use Rattle.terms.specs.Replies.{IsCheck}
-use Rattle.theory.proofs.Answers.{begin, past, stop_with, done}
+use Rattle.terms.specs.declared.Refusal.TheVariants.{JoinedArrows}
+use Rattle.terms.proofs.Decisions.{told}
+use Rattle.theory.proofs.Answers.{begin, past, stop, done}
 use Rattle.joins.specs.Tables.{made_rows}
 use Rattle.joins.proofs.checks.check_made.Goals as goal
 
-pub refuse-requires : goal.refuse-requires
-refuse-requires c = tt
-
 pub returns-then-many-gt-MOST_ARROWS : goal.returns-then-many-gt-MOST_ARROWS
 unfolding IsCheck made_rows
-returns-then-many-gt-MOST_ARROWS c = stop_with (begin _) c.if-many-gt-MOST_ARROWS.true c.refuse.ensures
-
-pub refuse-requires-then-times-n : goal.refuse-requires-then-times-n
-refuse-requires-then-times-n c = tt
+returns-then-many-gt-MOST_ARROWS c = stop {a = JoinedArrows} (begin (made_rows _ _ _ _)) c.if-many-gt-MOST_ARROWS.true told
 
 pub returns-then-times-n : goal.returns-then-times-n
 unfolding IsCheck made_rows
-returns-then-times-n c = stop_with (past (begin _) (λ h. omega (arith, h, c.if-many-gt-MOST_ARROWS.false))) (inl c.if-times-n.true) c.refuse-then-times-n.ensures
-
-pub refuse-requires-then-arrows-many : goal.refuse-requires-then-arrows-many
-refuse-requires-then-arrows-many c = tt
-
-pub returns-then-arrows-many : goal.returns-then-arrows-many
-unfolding IsCheck made_rows
-returns-then-arrows-many c = stop_with (past (begin _) (λ h. omega (arith, h, c.if-many-gt-MOST_ARROWS.false))) (inr c.if-arrows-many.true) c.refuse-then-arrows-many.ensures
+returns-then-times-n c =
+    stop (past (begin _) (λ h. omega (arith, h, c.if-many-gt-MOST_ARROWS.false))) (⊎_elim (λ s. inl s) (λ s. inr s.1) c.then-times-n.either) told
 
 pub returns : goal.returns
 unfolding IsCheck made_rows

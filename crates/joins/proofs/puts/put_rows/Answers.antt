@@ -1,118 +1,62 @@
 -- `put_rows`: the arrows out of n subtasks, row by row. Assumes nothing.
-use native.Mathlib.Omega.{arith}
-use Rattle.joins.proofs.RowByRow.{rows_none, rows_all, rows_same, NextRow, from_small, up_small, row_run, targets_run}
-use Rattle.joins.proofs.RowByRow.{row_room, targets_room, row_put, targets_put}
+use Rattle.std.proofs.Common.{rules, ◌≡◌, sym, ◌+◌, ◌-◌, ◌≤◌, length, take, drop, arith}
+use borrow.Author.Tests.{eqb-true, eqb-false}
+use Rattle.terms.specs.Arrangements.{row_of}
+use Rattle.joins.specs.Puts.{Puts, rows_arrows}
+use Rattle.joins.proofs.RowByRow.{rows_none, NextRow, targets_room, targets_put, row_room, row_put}
+use Rattle.joins.proofs.puts.put_rows.Goals.{After-is_empty, Joined-is_empty, then-is_empty, else-is_empty}
 use Rattle.joins.proofs.puts.put_rows.Goals as goal
 
+-- what is known where a row comes next
+next : (c : After-is_empty) → NextRow c.args.arrows.now c.args.at c.args.up c.args.n c.args.targets.now c.args.begins.now c.args.numbers.now c.loop-v.arrows c.loop-v.k c.loop-v.v c.from.result c.from-in-loop-v.result
+next c = record {
+  so_far = c.loop-v.invariant.0;
+  rows = c.requires.small_rows.0;
+  moves = c.requires.small_rows.1;
+  room = c.requires.room;
+  is = record { low = omega arith; high = omega arith };
+  begin_is = c.from.ensures;
+  end_is = c.from-in-loop-v.ensures;
+}
+
+-- the row is put
+put : (c : Joined-is_empty)
+    → NextRow c.args.arrows.now c.args.at c.args.up c.args.n c.args.targets.now c.args.begins.now c.args.numbers.now c.loop-v.arrows c.loop-v.k c.loop-v.v c.from.result c.from-in-loop-v.result
+    → Puts c.args.arrows.now c.args.at (rows_arrows c.args.up c.args.n c.args.targets.now (row_of c.args.begins.now c.args.numbers.now) c.loop-v.v) c.if-is_empty.arrows c.if-is_empty.k
+put c here = elim c.if-is_empty.branch [
+  | then-is_empty w ↦ rw (w.arrows-is, w.k-is) (targets_put here (eqb-true _ _ (sym w.if-is_empty.ensures)) w.put_run.ensures)
+  | else-is_empty w ↦ rw (w.arrows-is, w.k-is) (row_put here (eqb-false _ _ (sym w.if-is_empty.ensures)) w.put_run-else-is_empty.ensures)
+]
+
 pub loop-v-init : goal.loop-v-init
-loop-v-init c = rows_none
+loop-v-init c = (rows_none _ _ _ _ _ _, omega arith)
 
-pub usize_from_u16-begin-requires : goal.usize_from_u16-begin-requires
-usize_from_u16-begin-requires c = tt
+pub put_run-requires-clause-room : goal.put_run-requires-clause-room
+put_run-requires-clause-room c = targets_room (next (goal.at.put_run-requires-clause-room c).After-is_empty) (eqb-true _ _ (sym c.if-is_empty.ensures))
 
-pub usize_from_u16-end-requires : goal.usize_from_u16-end-requires
-usize_from_u16-end-requires c = tt
+pub overflow_add-k : goal.overflow_add-k
+overflow_add-k c =
+    let room : c.loop-v.k + length c.args.targets.now ≤ length c.loop-v.arrows =
+    targets_room (next (goal.at.overflow_add-k c).After-is_empty) (eqb-true _ _ (sym c.if-is_empty.ensures)) in
+    search (rules, room)
 
-pub overflow_add-up : goal.overflow_add-up
-overflow_add-up c =
-    let next : NextRow c.args.arrows.now c.args.at c.args.up c.args.n c.args.targets.now c.args.begins.now c.args.numbers.now c.loop-v.arrows c.loop-v.k c.loop-v.v c.usize_from_u16-begin.result c.usize_from_u16-end.result =
-    record {
-      so_far = c.loop-v.invariant;
-      rows = c.requires.small_rows.0;
-      moves = c.requires.small_rows.1;
-      room = c.requires.n_in_bounds;
-      more = c.loop-v-test.true;
-      begin_is = c.usize_from_u16-begin.ensures.0;
-      end_is = c.usize_from_u16-end.ensures.0;
-    } in
-    omega (arith, from_small next)
+pub put_run-requires-else-is_empty-clause-room : goal.put_run-requires-else-is_empty-clause-room
+put_run-requires-else-is_empty-clause-room c =
+    row_room (next (goal.at.put_run-requires-else-is_empty-clause-room c).After-is_empty) (eqb-false _ _ (sym c.if-is_empty.ensures))
 
-pub overflow_add-up-then-begin-end : goal.overflow_add-up-then-begin-end
-overflow_add-up-then-begin-end c =
-    let next : NextRow c.args.arrows.now c.args.at c.args.up c.args.n c.args.targets.now c.args.begins.now c.args.numbers.now c.loop-v.arrows c.loop-v.k c.loop-v.v c.usize_from_u16-begin.result c.usize_from_u16-end.result =
-    record {
-      so_far = c.loop-v.invariant;
-      rows = c.requires.small_rows.0;
-      moves = c.requires.small_rows.1;
-      room = c.requires.n_in_bounds;
-      more = c.loop-v-test.true;
-      begin_is = c.usize_from_u16-begin.ensures.0;
-      end_is = c.usize_from_u16-end.ensures.0;
-    } in
-    omega (arith, up_small next)
-
-pub put_run-k-requires : goal.put_run-k-requires
-put_run-k-requires c =
-    let next : NextRow c.args.arrows.now c.args.at c.args.up c.args.n c.args.targets.now c.args.begins.now c.args.numbers.now c.loop-v.arrows c.loop-v.k c.loop-v.v c.usize_from_u16-begin.result c.usize_from_u16-end.result =
-    record {
-      so_far = c.loop-v.invariant;
-      rows = c.requires.small_rows.0;
-      moves = c.requires.small_rows.1;
-      room = c.requires.n_in_bounds;
-      more = c.loop-v-test.true;
-      begin_is = c.usize_from_u16-begin.ensures.0;
-      end_is = c.usize_from_u16-end.ensures.0;
-    } in
-    let here = next in (targets_run here, from_small here, targets_room here c.if-begin-end.true)
-
-pub loop-v-preserved-then-begin-end : goal.loop-v-preserved-then-begin-end
-loop-v-preserved-then-begin-end c =
-    let next : NextRow c.args.arrows.now c.args.at c.args.up c.args.n c.args.targets.now c.args.begins.now c.args.numbers.now c.loop-v.arrows c.loop-v.k c.loop-v.v c.usize_from_u16-begin.result c.usize_from_u16-end.result =
-    record {
-      so_far = c.loop-v.invariant;
-      rows = c.requires.small_rows.0;
-      moves = c.requires.small_rows.1;
-      room = c.requires.n_in_bounds;
-      more = c.loop-v-test.true;
-      begin_is = c.usize_from_u16-begin.ensures.0;
-      end_is = c.usize_from_u16-end.ensures.0;
-    } in
-    targets_put next c.if-begin-end.true c.put_run-k.ensures
-
-pub overflow_add-up-else-begin-end : goal.overflow_add-up-else-begin-end
-overflow_add-up-else-begin-end c =
-    let next : NextRow c.args.arrows.now c.args.at c.args.up c.args.n c.args.targets.now c.args.begins.now c.args.numbers.now c.loop-v.arrows c.loop-v.k c.loop-v.v c.usize_from_u16-begin.result c.usize_from_u16-end.result =
-    record {
-      so_far = c.loop-v.invariant;
-      rows = c.requires.small_rows.0;
-      moves = c.requires.small_rows.1;
-      room = c.requires.n_in_bounds;
-      more = c.loop-v-test.true;
-      begin_is = c.usize_from_u16-begin.ensures.0;
-      end_is = c.usize_from_u16-end.ensures.0;
-    } in
-    omega (arith, from_small next)
-
-pub put_run-k-requires-else-begin-end : goal.put_run-k-requires-else-begin-end
-put_run-k-requires-else-begin-end c =
-    let next : NextRow c.args.arrows.now c.args.at c.args.up c.args.n c.args.targets.now c.args.begins.now c.args.numbers.now c.loop-v.arrows c.loop-v.k c.loop-v.v c.usize_from_u16-begin.result c.usize_from_u16-end.result =
-    record {
-      so_far = c.loop-v.invariant;
-      rows = c.requires.small_rows.0;
-      moves = c.requires.small_rows.1;
-      room = c.requires.n_in_bounds;
-      more = c.loop-v-test.true;
-      begin_is = c.usize_from_u16-begin.ensures.0;
-      end_is = c.usize_from_u16-end.ensures.0;
-    } in
-    let here = next in (row_run here, from_small here, row_room here c.if-begin-end.false)
+pub overflow_add-k-else-is_empty : goal.overflow_add-k-else-is_empty
+overflow_add-k-else-is_empty c =
+    let room : c.loop-v.k + length (take (c.from-in-loop-v.result - c.from.result) (drop c.from.result c.args.numbers.now)) ≤ length c.loop-v.arrows =
+    row_room (next (goal.at.overflow_add-k-else-is_empty c).After-is_empty) (eqb-false _ _ (sym c.if-is_empty.ensures)) in
+    search (rules, room)
 
 pub loop-v-preserved : goal.loop-v-preserved
 loop-v-preserved c =
-    let next : NextRow c.args.arrows.now c.args.at c.args.up c.args.n c.args.targets.now c.args.begins.now c.args.numbers.now c.loop-v.arrows c.loop-v.k c.loop-v.v c.usize_from_u16-begin.result c.usize_from_u16-end.result =
-    record {
-      so_far = c.loop-v.invariant;
-      rows = c.requires.small_rows.0;
-      moves = c.requires.small_rows.1;
-      room = c.requires.n_in_bounds;
-      more = c.loop-v-test.true;
-      begin_is = c.usize_from_u16-begin.ensures.0;
-      end_is = c.usize_from_u16-end.ensures.0;
-    } in
-    row_put next c.if-begin-end.false c.put_run-k-else-begin-end.ensures
-
-pub shape_of-arrows : goal.shape_of-arrows
-shape_of-arrows c = rows_same c.loop-v.invariant
+    let e : c.loop-v.v + 1 - 1 ≡ c.loop-v.v = omega arith in
+    (rw e (put (goal.at.loop-v-preserved c).Joined-is_empty (next (goal.at.loop-v-preserved c).After-is_empty)), omega arith)
 
 pub returns : goal.returns
-returns c = rows_all c.loop-v-test.false c.loop-v.invariant
+returns c = let e : c.loop-v.v - 1 ≡ c.args.n = omega arith in rw e at c.loop-v.invariant.0
+
+pub returns-after-is_empty : goal.returns-after-is_empty
+returns-after-is_empty c = let e : c.loop-v.v ≡ c.args.n = omega arith in rw e at (put (goal.at.returns-after-is_empty c).Joined-is_empty (next (goal.at.returns-after-is_empty c).After-is_empty))

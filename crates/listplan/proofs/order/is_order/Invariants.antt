@@ -1,11 +1,6 @@
--- `is_order`: the row is an order of all subtasks, or it is not. Assumes nothing.
-use Prim.Native.Nat.{◌-◌}
-use lib.ListN.{length}
+-- `is_order`: those of the order that came so far are subtasks, each once. Assumes nothing.
 use Rattle.listplan.proofs.OrderTest.{Named}
 use Rattle.listplan.proofs.order.is_order.Given as goal
 
-abbrev pub invariant-loop-x : goal.invariant-loop-x
-invariant-loop-x l = Named l.initial.times l.initial.order l.seen l.x
-
-abbrev pub decreases-loop-x : goal.decreases-loop-x
-decreases-loop-x l = length l.initial.order - l.x
+abbrev pub invariant-loop-number : goal.invariant-loop-number
+invariant-loop-number l = Named l.times l.order l.seen l.number-index

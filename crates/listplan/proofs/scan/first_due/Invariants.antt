@@ -1,11 +1,8 @@
--- `first_due`: the first processor with an end by t. Assumes nothing.
-use Prim.Native.Nat.{◌+◌, ◌-◌, ◌≤◌}
+-- `first_due`: none of the processors that came so far has an end by t. Assumes nothing.
+use Rattle.std.proofs.Common.{◌+◌, ◌≤◌}
 use Rattle.theory.specs.First.{NoneBelow}
 use Rattle.listplan.specs.Making.{IsDue}
 use Rattle.listplan.proofs.scan.first_due.Given as goal
 
 abbrev pub invariant-loop-p : goal.invariant-loop-p
-invariant-loop-p l = (1 ≤ l.p) × NoneBelow (IsDue l.initial.until l.initial.t) (l.initial.m + 1) l.p
-
-abbrev pub decreases-loop-p : goal.decreases-loop-p
-decreases-loop-p l = l.initial.m + 1 - l.p
+invariant-loop-p l = (1 ≤ l.p) × NoneBelow (IsDue l.until l.t) (l.m + 1) l.p

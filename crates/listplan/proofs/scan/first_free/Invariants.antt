@@ -1,11 +1,8 @@
--- `first_free`: the first processor that nobody is on. Assumes nothing.
-use Prim.Native.Nat.{◌+◌, ◌-◌, ◌≤◌}
+-- `first_free`: none of the processors that came so far is free. Assumes nothing.
+use Rattle.std.proofs.Common.{◌+◌, ◌≤◌}
 use Rattle.theory.specs.First.{NoneBelow}
 use Rattle.listplan.specs.Making.{IsFree}
 use Rattle.listplan.proofs.scan.first_free.Given as goal
 
 abbrev pub invariant-loop-p : goal.invariant-loop-p
-invariant-loop-p l = (1 ≤ l.p) × NoneBelow (IsFree l.initial.who) (l.initial.m + 1) l.p
-
-abbrev pub decreases-loop-p : goal.decreases-loop-p
-decreases-loop-p l = l.initial.m + 1 - l.p
+invariant-loop-p l = (1 ≤ l.p) × NoneBelow (IsFree l.who) (l.m + 1) l.p

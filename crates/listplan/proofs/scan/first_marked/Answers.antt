@@ -1,6 +1,7 @@
 -- `first_marked`: the first place of the order that is marked. Assumes nothing.
 use Prim.Native.Nat.{◌<◌}
 use native.Mathlib.Omega.{arith}
+use Rattle.listplan.specs.Making.{FirstMark}
 use Rattle.listplan.proofs.Scans.{unmarked_below, unmarked_more, unmarked_group, marked_here, none_marked}
 use Rattle.listplan.proofs.scan.first_marked.Goals as goal
 
@@ -42,7 +43,8 @@ bounds-ready-x c =
     omega (arith, inside)
 
 pub returns-then-ready-x-eq1 : goal.returns-then-ready-x-eq1
-returns-then-ready-x-eq1 c = marked_here c.requires.0 c.loop-x-test.true c.loop-x.invariant c.if-ready-x-eq1.true
+unfolding FirstMark
+returns-then-ready-x-eq1 c = (c.loop-x-test.true, marked_here c.requires.0 c.loop-x-test.true c.loop-x.invariant c.if-ready-x-eq1.true)
 
 pub overflow_add-x-else-ready-x-eq1 : goal.overflow_add-x-else-ready-x-eq1
 overflow_add-x-else-ready-x-eq1 c =
@@ -58,4 +60,5 @@ pub loop-x-preserved : goal.loop-x-preserved
 loop-x-preserved c = unmarked_more c.loop-x.invariant c.if-ready-x-eq1.false
 
 pub returns : goal.returns
-returns c = none_marked c.requires.0 c.loop-x-test.false c.loop-x.invariant
+unfolding FirstMark
+returns c = (none_marked c.requires.0 c.loop-x-test.false c.loop-x.invariant).before

@@ -1,12 +1,7 @@
--- `first_to_end`: the first processor with the soonest end. Assumes nothing.
-use mathlib.Core.Path.{◌≡◌}
-use Prim.Native.Nat.{◌-◌, ◌≤◌}
-use lib.ListN.{get_or}
+-- `first_to_end`: the first of the processors that came so far with the soonest end. Assumes nothing.
+use Rattle.std.proofs.Common.{◌-◌}
 use Rattle.listplan.specs.Making.{Soonest}
 use Rattle.listplan.proofs.scan.first_to_end.Given as goal
 
 abbrev pub invariant-loop-p : goal.invariant-loop-p
-invariant-loop-p l = (l.p ≤ l.initial.m) × Soonest l.initial.until l.p l.first × (l.end ≡ get_or l.initial.until l.first 0)
-
-abbrev pub decreases-loop-p : goal.decreases-loop-p
-decreases-loop-p l = l.initial.m - l.p
+invariant-loop-p l = Soonest l.until (l.p - 1) l.first

@@ -1,30 +1,25 @@
 -- `graph_at`: the graph at a place, or none. Assumes nothing.
-use native.Mathlib.Omega.{arith}
+use Rattle.std.proofs.Common.{rules, [], get_or, arith}
+use Rattle.terms.specs.Graphs.{Among}
 use Rattle.nests.proofs.Entries.{no_graph_past, no_graph_here, graph_here}
+use Rattle.nests.proofs.walk.graph_at.Goals.{else-number-eq0-via-then-number-eq0+then-contains+else-c-le16776960, else-number-eq0-via-then-number-eq0+else-contains, else-number-eq0-via-else-number-eq0}
 use Rattle.nests.proofs.walk.graph_at.Goals as goal
 
-pub returns-then-row-at : goal.returns-then-row-at
-returns-then-row-at c = no_graph_past _ _ c.if-row-at.true c.broken.ensures
+pub returns-in_err-number : goal.returns-in_err-number
+returns-in_err-number c = rw c.from_residual.ensures (no_graph_past c.args.row.now c.args.at c.in_err-number.ensures.lookup.3)
 
-pub returns-then-entry-ne0 : goal.returns-then-entry-ne0
-returns-then-entry-ne0 c = no_graph_here _ _ (omega arith) (λ g. c.if-entry-ne0.true g.kind_is) c.broken-then-entry-ne0.ensures
+pub returns-then-c-le16776960 : goal.returns-then-c-le16776960
+returns-then-c-le16776960 c =
+    let entry = c.in_ok-number.ensures.lookup.3 in
+    let path : Among 1 (get_or c.in_ok-number.field-0.now 1 0) (get_or c.in_ok-number.field-0.now 2 0) = search rules in
+    graph_here c.args.row.now _ _ entry.0 (entry.1 []) (record { kind_is = c.if-number-eq0.true; in_range = record { path = path; work = c.if-c-le16776960.true } })
 
-pub returns-then-entry-eq0 : goal.returns-then-entry-eq0
-returns-then-entry-eq0 c = no_graph_here _ _ (omega arith) (λ g. omega (arith, c.if-entry-eq0.true, g.in_range.path.low)) c.broken-then-entry-eq0.ensures
-
-pub returns-then-entry : goal.returns-then-entry
-returns-then-entry c = no_graph_here _ _ (omega arith) (λ g. omega (arith, c.if-entry.true, g.in_range.path.high)) c.broken-then-entry.ensures
-
-pub returns-then-entry-gt16776960 : goal.returns-then-entry-gt16776960
-returns-then-entry-gt16776960 c = no_graph_here _ _ (omega arith) (λ g. omega (arith, c.if-entry-gt16776960.true, g.in_range.work)) c.broken-then-entry-gt16776960.ensures
-
-pub returns : goal.returns
-returns c =
-    let few = c.if-entry-gt16776960.false in
-    let up_to_C = c.if-entry.false in
-    let some = c.if-entry-eq0.false in
-    let kind = c.if-entry-ne0.false in
-    graph_here _ _ (omega arith) (record {
-      kind_is = kind;
-      in_range = record { path = record { low = omega (arith, some); high = up_to_C }; work = few };
-    })
+pub returns-else-number-eq0 : goal.returns-else-number-eq0
+returns-else-number-eq0 c =
+    let entry = c.in_ok-number.ensures.lookup.3 in
+    no_graph_here c.args.row.now _ _ entry.0 (entry.1 []) (λ g. elim c.else-number-eq0.branch [
+      | else-number-eq0-via-then-number-eq0+then-contains+else-c-le16776960 w ↦ omega (arith, w.if-c-le16776960.false, g.in_range.work)
+      | else-number-eq0-via-then-number-eq0+else-contains w ↦
+          let none : ¬ Among 1 (get_or c.in_ok-number.field-0.now 1 0) (get_or c.in_ok-number.field-0.now 2 0) = search rules in none g.in_range.path
+      | else-number-eq0-via-else-number-eq0 w ↦ w.if-number-eq0.false g.kind_is
+    ])

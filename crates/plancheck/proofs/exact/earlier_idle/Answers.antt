@@ -1,19 +1,28 @@
 -- `earlier_idle`: the earliest so far, with one end more. Assumes nothing.
+use Rattle.std.proofs.Common.{◌≡◌, ℕ, Option, None, Some, arith}
+use Rattle.theory.proofs.Firsts.{said, unsaid}
+use Rattle.plancheck.specs.Scans.{SomeIdles}
 use Rattle.plancheck.proofs.Counts.{earliest_stays, earliest_moves, earliest_skips}
 use Rattle.plancheck.proofs.exact.earlier_idle.Goals as goal
+use Rattle.plancheck.proofs.exact.earlier_idle.Goals.{in-Some+else-instant-end, in_default}
 
-pub end_of-e-requires : goal.end_of-e-requires
-end_of-e-requires c =
-    (c.requires.timed.2, c.requires.timed.0)
+pub returns-then-instant-end : goal.returns-then-instant-end
+returns-then-instant-end c = earliest_stays _ _ _ _ _ _ c.end_of-end.ensures _ (rw c.in-Some.is at c.requires.earliest) c.if-instant-end.true
 
-pub returns-then-found-e : goal.returns-then-found-e
-returns-then-found-e c =
-    earliest_stays _ _ _ _ c.requires.earliest c.end_of-e.ensures c.if-found-e.true
-
-pub returns-then-idle-ne0 : goal.returns-then-idle-ne0
-returns-then-idle-ne0 c =
-    earliest_moves _ _ _ _ c.requires.earliest c.end_of-e.ensures c.first_idle-idle.ensures c.if-idle-ne0.true c.if-found-e.false
+pub returns-then-some_idles : goal.returns-then-some_idles
+returns-then-some_idles c =
+    earliest_moves _ _ _ _ _ _ c.end_of-end.ensures _ c.requires.earliest
+    (λ t e. elim c.match-found.branch [
+      | in-Some+else-instant-end w ↦ let same : w.in-Some.instant ≡ t = cc (w.in-Some.is, e) in omega (arith, same, w.if-instant-end.false)
+      | in_default w ↦ let is : ◌≡◌ {A = Option ℕ} None (Some t) = cc (w.in_default.is, e) in cc
+    ])
+    (said {P = SomeIdles c.args.times.now c.args.plan.now c.args.ready.now c.args.m c.end_of-end.result} c.if-some_idles.true c.some_idles.ensures)
 
 pub returns : goal.returns
 returns c =
-    earliest_skips _ _ _ _ c.requires.earliest c.end_of-e.ensures c.first_idle-idle.ensures c.if-idle-ne0.false
+    earliest_skips _ _ _ _ _ _ c.end_of-end.ensures _
+    (elim c.match-found.branch [
+      | in-Some+else-instant-end w ↦ rw w.found-is (rw w.in-Some.is at c.requires.earliest)
+      | in_default w ↦ rw w.found-is c.requires.earliest
+    ])
+    (unsaid {P = SomeIdles c.args.times.now c.args.plan.now c.args.ready.now c.args.m c.end_of-end.result} c.if-some_idles.false c.some_idles.ensures)

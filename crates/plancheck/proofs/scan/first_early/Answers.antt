@@ -1,20 +1,16 @@
 -- `first_early`: the first subtask that starts before the latest end of a predecessor. Assumes nothing.
-use native.Mathlib.Omega.{arith}
-use Rattle.theory.proofs.Firsts.{first_here, first_none}
-use borrow.Author.Count.{below_more}
+use Rattle.std.proofs.Common.{[], arith, below_more}
+use Rattle.forms.proofs.PlanEnds.{start_next}
+use Rattle.plancheck.proofs.FirstSubtasks.{first_here, first_none}
 use Rattle.plancheck.proofs.scan.first_early.Goals as goal
 
-pub loop-j-init : goal.loop-j-init
-loop-j-init c = (omega arith, λ k l. absurd (omega arith))
+pub returns-then-entry-ready : goal.returns-then-entry-ready
+returns-then-entry-ready c =
+    first_here _ c.loop-place.invariant (omega arith) (omega (arith, c.if-entry-ready.true, start_next [] c.args.plan.now c.loop-place.place))
 
-pub returns-then-start_of-ready : goal.returns-then-start_of-ready
-returns-then-start_of-ready c =
-    first_here _ _ _ c.loop-j-test.true c.loop-j.invariant.1 (omega arith)
-
-pub loop-j-preserved : goal.loop-j-preserved
-loop-j-preserved c =
-    (omega arith, below_more _ _ c.loop-j.invariant.1 (λ h. omega arith))
+pub loop-place-preserved : goal.loop-place-preserved
+loop-place-preserved c =
+    below_more _ _ c.loop-place.invariant (λ h. omega (arith, h, c.if-entry-ready.false, start_next [] c.args.plan.now c.loop-place.place))
 
 pub returns : goal.returns
-returns c =
-    first_none _ _ _ c.loop-j.invariant.1 c.loop-j-test.false
+returns c = first_none _ c.loop-place.invariant (omega arith)

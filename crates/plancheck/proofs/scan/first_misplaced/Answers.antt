@@ -1,26 +1,23 @@
 -- `first_misplaced`: the first subtask with a processor outside 1..m. Assumes nothing.
-use native.Mathlib.Omega.{arith}
-use borrow.Author.Count.{below_more}
-use Rattle.theory.proofs.Firsts.{first_here, first_none}
+use Rattle.std.proofs.Common.{[], arith, below_more}
+use Rattle.forms.proofs.PlanEnds.{processor_next}
+use Rattle.plancheck.proofs.FirstSubtasks.{first_here, first_none}
 use Rattle.plancheck.proofs.scan.first_misplaced.Goals as goal
-
-pub loop-j-init : goal.loop-j-init
-loop-j-init c = (omega arith, λ k l. absurd (omega arith))
+use Rattle.plancheck.proofs.scan.first_misplaced.Goals.{then-number-lt1-via-then-number-lt1, then-number-lt1-via-else-number-lt1+then-m-number}
 
 pub returns-then-number-lt1 : goal.returns-then-number-lt1
 returns-then-number-lt1 c =
-    first_here _ _ _ c.loop-j-test.true c.loop-j.invariant.1 (λ h. omega (arith, h.low, c.processor_of-p.ensures))
+    first_here _ c.loop-place.invariant (omega arith)
+    (λ h. elim c.then-number-lt1.branch [
+      | then-number-lt1-via-then-number-lt1 w ↦ omega (arith, h.low, processor_next [] c.args.plan.now c.loop-place.place)
+      | then-number-lt1-via-else-number-lt1+then-m-number w ↦ omega (arith, h.high, processor_next [] c.args.plan.now c.loop-place.place)
+    ])
 
-pub returns-then-m-number : goal.returns-then-m-number
-returns-then-m-number c =
-    first_here _ _ _ c.loop-j-test.true c.loop-j.invariant.1 (λ h. omega (arith, h.high, c.processor_of-p.ensures))
-
-pub loop-j-preserved : goal.loop-j-preserved
-loop-j-preserved c = (
-  omega arith,
-  below_more _ _ c.loop-j.invariant.1
-      (λ h. h (record { low = omega (arith, c.processor_of-p.ensures); high = omega (arith, c.processor_of-p.ensures) })),
-)
+pub loop-place-preserved : goal.loop-place-preserved
+loop-place-preserved c =
+    below_more _ _ c.loop-place.invariant
+    (λ h. let number = processor_next [] c.args.plan.now c.loop-place.place in
+    h (record { low = omega arith; high = omega arith }))
 
 pub returns : goal.returns
-returns c = first_none _ _ _ c.loop-j.invariant.1 c.loop-j-test.false
+returns c = first_none _ c.loop-place.invariant (omega arith)

@@ -1,8 +1,0 @@
--- `processor_of`: what the row of processors holds for a subtask. Assumes nothing.
-use borrow.Author.Rules.{rules}
-use Rattle.forms.specs.Forms.{item_of}
-use Rattle.plancheck.proofs.read.processor_of.Goals as goal
-
-pub returns : goal.returns
-unfolding item_of
-returns c = search rules
