@@ -4,4 +4,4 @@ use Rattle.writer.proofs.lines.put_further.Goals as goal
 
 pub returns : goal.returns
 returns c =
-    further_put _ c.requires c.put_byte-behind.ensures c.put_number.ensures
+    further_put _ c.requires c.put_byte-at.ensures c.put_number.ensures

@@ -3,4 +3,4 @@ use Rattle.writer.proofs.TaskLines.{NumbersRemain}
 use Rattle.writer.proofs.lines.put_line.Given as goal
 
 abbrev pub invariant-loop-x : goal.invariant-loop-x
-invariant-loop-x l = NumbersRemain l.row l.initial.text l.initial.k l.text l.k l.x-index
+invariant-loop-x l = NumbersRemain l.row l.initial.text l.initial.at l.text l.at l.x-index

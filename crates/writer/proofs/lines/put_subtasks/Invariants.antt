@@ -3,4 +3,4 @@ use Rattle.writer.proofs.SubtaskTexts.{LinesRemain}
 use Rattle.writer.proofs.lines.put_subtasks.Given as goal
 
 abbrev pub invariant-loop-i : goal.invariant-loop-i
-invariant-loop-i l = LinesRemain l.times l.begins l.numbers l.initial.text l.initial.at l.text l.k l.i
+invariant-loop-i l = LinesRemain l.times l.predecessors.begins.now l.predecessors.numbers.now l.initial.text l.fn.at l.text l.at l.i
