@@ -51,14 +51,14 @@ fn read_lines(text: &[u8], times: &mut [u16], arrows: &mut [[u16; 2]]) -> Result
 }
 
 // 2 to 7, asked of a graph that was read. Of more than 2,048 arrows the row holds the first ones: only 2 or 3 can be the answer then.
-fn check_read(times: &[u16], n: usize, arrows: &[[u16; 2]], a: usize) -> Result<(), Refusal>
-    requires { (1 ≤ n) × (n ≤ 256) × (256 ≤ length times.now) × (2048 ≤ length arrows.now) }
-    ensures { ChecksRead times.now n arrows.now a result }
+fn check_read(times: &[u16], arrows: &[[u16; 2]], a: usize) -> Result<(), Refusal>
+    requires { Among 1 256 (length times.now) × (2048 ≤ length arrows.now) }
+    ensures { ChecksRead times.now arrows.now a result }
 {
     if a <= MOST_ARROWS {
-        return check(&times[..n], &arrows[..a]);
+        return check(times, &arrows[..a]);
     }
-    check_subtasks(&times[..n])?;
+    check_subtasks(times)?;
     Err(Refusal::ArrowCount)
 }
 
@@ -82,7 +82,7 @@ fn read_graph(text: &[u8], times: &mut [u16], arrows: &mut [[u16; 2]]) -> Result
 {
     check_room(times.len(), arrows.len(), text.len())?;
     let size = read_lines(text, times, arrows)?;
-    check_read(times, size.subtasks, arrows, size.arrows)?;
+    check_read(&times[..size.subtasks], arrows, size.arrows)?;
     Ok(size)
 }
 
