@@ -70,7 +70,10 @@ fn listed(
     order: &[u16],
     room: usize,
 ) -> io::Result<()> {
-    print_end(rt, list_plan(times, arrows, m, order, &mut blank()[..room.min(256)]))
+    print_end(
+        rt,
+        list_plan(times, arrows, m, order, &mut blank()[..room.min(256)]),
+    )
 }
 
 // The check of a plan of two entries, and of one.

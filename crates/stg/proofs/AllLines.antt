@@ -1,19 +1,17 @@
 -- All lines of a text, in order. Assumes nothing.
 use mathlib.Core.Path.{◌≡◌, ◌∙◌, ap}
-use mathlib.Core.List.{List}
+use mathlib.Core.List.{List, []}
 use Prim.Native.Nat.{ℕ, ◌+◌}
 use native.Mathlib.Nat.{add-zero}
 use lib.ListN.{drop}
 use Rattle.terms.specs.Graphs.{Among}
 use Rattle.terms.specs.Texts.{lines}
-use Rattle.terms.specs.Readings.{Reading, refuse, trailer, exit_line, task_lines, read_lines}
-use Rattle.terms.specs.declared.Check.{Check}
-use Rattle.terms.specs.declared.Check.TheVariants as check
-use Rattle.terms.specs.declared.Counts.TheVariants as counts
+use Rattle.terms.specs.Readings.{Reading, refuse, graph, trailer, exit_line, task_lines, read_lines}
 use Rattle.terms.specs.declared.Refusal.{Refusal}
 use Rattle.text.specs.Rest.{line, later}
 use Rattle.stg.specs.LinesRead.{outcome, FirstIs, Dummy, dummy, AllSubtasks, Opened, closed, Leaves}
 use Rattle.stg.proofs.OneLine.{entry_line_lem, exit_line_lem}
+use Rattle.std.specs.Prelude.{Result, Ok, Err}
 
 -- the first line and the entry dummy's
 module _ {text : List ℕ} {n e : ℕ} (f : FirstIs text n e) where
@@ -41,19 +39,21 @@ module _ (text : List ℕ) (at i : ℕ) where
 
 -- the lines from the subtasks' on, and all of them
 module _ (text : List ℕ) (ts : List ℕ) (ar : List (List ℕ)) (ts' : List ℕ) (ar' : List (List ℕ)) where
-  pub opening_refused : (refusal : Refusal) → read_lines (lines text) ≡ refuse refusal → Leaves ts ar (read_lines (lines text)) ts' ar' (counts.Refused refusal)
+  pub opening_refused : (refusal : Refusal) → read_lines (lines text) ≡ refuse refusal → Leaves ts ar (read_lines (lines text)) ts' ar' (Err refusal)
   unfolding Leaves
   opening_refused refusal e = ap (outcome ts ar 0 0) e
 
-  module _ {n e b f : ℕ} (t : AllSubtasks text e n ts ar b f ts' ar') {r : Check} (c : exit_line (n + 1) (lines (drop f text)) ≡ closed r) where
-    to_close : (x : Check) → r ≡ x → outcome ts ar 0 0 (task_lines 1 n (lines (drop e text))) ≡ outcome ts' ar' n b (closed x)
-    to_close x q = t.does ∙ ap (outcome ts' ar' n b) (c ∙ ap closed q)
+  module _ {n e b f : ℕ} (t : AllSubtasks text e n ts ar b f ts' ar') where
+    to_close : (r : Result (Unit {0}) Refusal) → exit_line (n + 1) (lines (drop f text)) ≡ closed r
+        → outcome ts ar 0 0 (task_lines 1 n (lines (drop e text))) ≡ outcome ts' ar' n b (closed r)
+    to_close r c = t.does ∙ ap (outcome ts' ar' n b) c
 
-    pub closing_refused : (refusal : Refusal) → r ≡ check.Refused refusal → Leaves ts ar (task_lines 1 n (lines (drop e text))) ts' ar' (counts.Refused refusal)
+    pub closing_refused : (refusal : Refusal) → exit_line (n + 1) (lines (drop f text)) ≡ refuse refusal
+        → Leaves ts ar (task_lines 1 n (lines (drop e text))) ts' ar' (Err refusal)
     unfolding Leaves
-    closing_refused refusal q = to_close (check.Refused refusal) q
+    closing_refused refusal c = to_close (Err refusal) c
 
-    pub closing_sound : r ≡ check.Sound → Among 1 256 n
-        → Leaves ts ar (task_lines 1 n (lines (drop e text))) ts' ar' (counts.Read (record { subtasks = n; arrows = b }))
+    pub closing_sound : exit_line (n + 1) (lines (drop f text)) ≡ graph [] [] → Among 1 256 n
+        → Leaves ts ar (task_lines 1 n (lines (drop e text))) ts' ar' (Ok (record { subtasks = n; arrows = b }))
     unfolding Leaves
-    closing_sound q size = (to_close check.Sound q ∙ rw (add-zero n, add-zero b), size)
+    closing_sound c size = (to_close (Ok tt) c ∙ rw (add-zero n, add-zero b), size)

@@ -9,18 +9,19 @@ use borrow.Author.Tests.{le-leb, lt-leb, leb-true, leb-false}
 use lib.Dec.{leb}
 use lib.ListN.{length, get_or, take, length-map}
 use lib.Seq.{length-take-le}
-use Rattle.terms.specs.Rows.{Smallest, IsAt, Accepted, RefusedBy, refusal_of}
+use Rattle.terms.specs.Rows.{Smallest, IsAt, Accepted, RefusedBy}
 use Rattle.terms.specs.Graphs.{Among, IsSubtask, from_of, to_of}
 use Rattle.terms.specs.Refusals.{SomeArrow, NamesOutside, ArrowAt, count_rows, time_rows, subtask_rows, size_rows, arrow_rows, time_and_arrow_rows, graph_rows}
 use Rattle.terms.specs.Replies.{IsCheck}
-use Rattle.terms.specs.declared.Check.{Check}
-use Rattle.terms.specs.declared.Check.TheVariants as check
 use Rattle.terms.specs.declared.Refusal.{Refusal}
-use Rattle.theory.proofs.Answers.{refused_first, refused_rest, refused_tail, accepted_both, accepted_tail, begin, past_all, stop_with, holds_of, none_holds}
+use Rattle.theory.proofs.Answers.{refused_first, refused_rest, refused_tail, accepted_both, accepted_tail, begin, past_all, stop, holds_of, none_holds}
+use Rattle.terms.proofs.Decisions.{told}
 use Rattle.theory.proofs.Stops.{smallest_as}
 use Rattle.theory.proofs.Accepted.{read_refused, read_accepted}
 use Rattle.stg.specs.LinesRead.{clipped, hold}
 use Rattle.stg.specs.RowsRead.{AllPairs, ChecksRead}
+use Rattle.std.specs.Prelude.{Result, Ok, Err}
+use Rattle.terms.specs.declared.Refusal.TheVariants.{ArrowCount}
 
 from_held : (bs : List (List ℕ)) (i : ℕ) → i < length bs → from_of (map hold bs) i ≡ clipped (from_of bs i)
 unfolding from_of
@@ -120,11 +121,11 @@ module _ (us : List ℕ) (few : length us ≤ 256) (bs : List (List ℕ)) where
     unfolding arrow_rows Accepted
     arrows_accepted (n, x) = let y : Accepted (arrow_rows us Held) = (n, x) in rw (held_same n) at y
 
-    checked_held : (r : Check) → IsCheck (time_and_arrow_rows us Held) r → IsCheck (time_and_arrow_rows us bs) r
+    checked_held : (r : Result (Unit {0}) Refusal) → IsCheck (time_and_arrow_rows us Held) r → IsCheck (time_and_arrow_rows us bs) r
     unfolding IsCheck time_and_arrow_rows
-    checked_held check.Sound x =
+    checked_held (Ok tt) x =
         accepted_tail (time_rows us) _ (size_rows bs ++ arrow_rows us bs) (λ y. accepted_tail (size_rows bs) _ _ arrows_accepted (rw same_size at y)) x
-    checked_held (check.Refused r) x =
+    checked_held (Err r) x =
         refused_tail (time_rows us) _ (size_rows bs ++ arrow_rows us bs) r (λ y. refused_tail (size_rows bs) _ _ r (arrows_refused r) (rw same_size at y)) x
 
 -- neither 3 nor 4
@@ -140,21 +141,21 @@ module _ (times : List ℕ) (n : ℕ) (row : List (List ℕ)) (a : ℕ) (low : 1
   among = let e = length-take-le n times fits in record { low = rw e low; high = rw e high }
 
   -- where 1 does not hold, 1 to 7 answer as 2 to 7 do
-  as_read : (arrows : List (List ℕ)) (r : Check) → IsCheck (graph_rows (take n times) arrows) r → IsCheck (time_and_arrow_rows (take n times) arrows) r
+  as_read : (arrows : List (List ℕ)) (r : Result (Unit {0}) Refusal) → IsCheck (graph_rows (take n times) arrows) r → IsCheck (time_and_arrow_rows (take n times) arrows) r
   unfolding IsCheck
-  as_read arrows check.Sound x = read_accepted (take n times) arrows x
-  as_read arrows (check.Refused r) x = read_refused (take n times) arrows r among x
+  as_read arrows (Ok tt) x = read_accepted (take n times) arrows x
+  as_read arrows (Err r) x = read_refused (take n times) arrows r among x
 
-  pub checks_few : (r : Check) → a ≤ 2048 → IsCheck (graph_rows (take n times) (take a row)) r → ChecksRead times n row a r
+  pub checks_few : (r : Result (Unit {0}) Refusal) → a ≤ 2048 → IsCheck (graph_rows (take n times) (take a row)) r → ChecksRead times n row a r
   checks_few r m k bs s = checked_held (take n times) among.high bs s.pairs r (rw (s.first m) at (as_read (take a row) r k))
 
   -- more than 2,048 arrows: 2, and else 3
-  pub checks_three : {r : Refusal} → 2048 < a → Accepted (subtask_rows (take n times)) → r ≡ refusal_of 3 → ChecksRead times n row a (check.Refused r)
+  pub checks_three : 2048 < a → Accepted (subtask_rows (take n times)) → ChecksRead times n row a (Err ArrowCount)
   unfolding IsCheck subtask_rows time_and_arrow_rows size_rows
-  checks_three m k e bs s =
+  checks_three m k bs s =
       let times-pass = (accepted_both (count_rows (take n times)) (time_rows (take n times)) k).1 in
-      stop_with (past_all (time_rows (take n times)) (begin (time_and_arrow_rows (take n times) bs)) times-pass) (rw s.many m) e
+      stop (past_all (time_rows (take n times)) (begin (time_and_arrow_rows (take n times) bs)) times-pass) (rw s.many m) told
 
-  pub checks_two : (r : Refusal) → RefusedBy (subtask_rows (take n times)) r → ChecksRead times n row a (check.Refused r)
+  pub checks_two : (r : Refusal) → RefusedBy (subtask_rows (take n times)) r → ChecksRead times n row a (Err r)
   unfolding IsCheck subtask_rows count_rows time_and_arrow_rows Accepted
   checks_two r k bs s = refused_first (time_rows (take n times)) _ r (refused_rest (count_rows (take n times)) (time_rows (take n times)) r ((λ h. h among), tt) k)

@@ -10,7 +10,6 @@ use Rattle.std.specs.Prelude.{Option, Some, None}
 use lib.ListN.{length, get_or, drop, drop_of_length-le}
 use lib.Seq.{drop-cons, drop-drop}
 use Rattle.terms.specs.Texts.{all_pass, begins, onto, is_blank, is_field, value, lines, fields, proper, numbers, ends_here}
-use Rattle.terms.specs.Rows.{refusal_of}
 use Rattle.terms.specs.Readings.{refuse, graph, may_follow, trailer}
 use Rattle.text.specs.Steps.{line_size}
 use Rattle.text.specs.Rest.{line}
@@ -20,6 +19,7 @@ use Rattle.text.proofs.Lines.{later_size, size_on}
 use Rattle.stg.specs.LinesRead.{Follower, FollowerOf}
 use Rattle.stg.specs.Numbers.{SomeNumber, LineEndOf}
 use Rattle.stg.proofs.OneLine.{lines_at}
+use Rattle.terms.specs.declared.Refusal.TheVariants.{TaskLine}
 
 abbrev none : List (List ℕ) → Bool
 none [] = true
@@ -97,7 +97,7 @@ module _ (text : List ℕ) (at : ℕ) (h : at < length text) where
   unfolding trailer
   trailer_more e p = rw (lines_at text at h, p.may, p.next)
 
-  pub trailer_stop : may_follow (line (drop at text)) ≡ false → trailer (lines (drop at text)) ≡ refuse (refusal_of 22)
+  pub trailer_stop : may_follow (line (drop at text)) ≡ false → trailer (lines (drop at text)) ≡ refuse TaskLine
   unfolding trailer
   trailer_stop e = rw (lines_at text at h, e)
 

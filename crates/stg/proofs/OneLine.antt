@@ -2,7 +2,6 @@
 use mathlib.Core.Path.{◌≡◌, refl, sym, ◌∙◌, ap}
 use mathlib.Core.List.{List, [], ◌∷◌}
 use mathlib.Core.Bool.{Bool, true, false, ◌&&◌, and-false}
-use Rattle.std.specs.Prelude.{Option}
 use Prim.Native.Nat.{ℕ, suc, ◌≤◌, ◌<◌}
 use native.Mathlib.Omega.{arith}
 use borrow.Author.Tests.{eq-eqb, ne_eqb, le-leb, lt-leb, le-ltb}
@@ -10,18 +9,14 @@ use lib.Dec.{eqb, leb, ltb}
 use lib.ListN.{length, get_or, drop}
 use lib.Seq.{drop-cons}
 use Rattle.terms.specs.Texts.{all_pass, lines, proper, numbers}
-use Rattle.terms.specs.Rows.{refusal_of}
 use Rattle.terms.specs.Readings.{Reading, refuse, line_at_hand, lines_after, is_size, is_first, is_shape, is_task, is_entry_dummy, is_exit_dummy, predecessors_in}
 use Rattle.terms.specs.Readings.{trailer, exit_line, task_lines, entry_line, read_lines}
-use Rattle.terms.specs.declared.Refusal.{Refusal}
 use Rattle.text.specs.Rest.{line, later}
 use Rattle.text.specs.Standing.{Ended, Passed}
 use Rattle.text.proofs.Lines.{lines_cons}
-use Rattle.stg.specs.LinesRead.{PredecessorsAre, PredecessorsOf, TaskIs, TaskOf, FirstIs, Dummy, dummy, DummyOf}
-use Rattle.stg.specs.declared.predecessors.Rest.{Rest}
-use Rattle.stg.specs.declared.outer_lines.Passage.{Passage}
-use Rattle.stg.specs.declared.tasks.TaskLine.{TaskLine}
+use Rattle.stg.specs.LinesRead.{PredecessorsAre, TaskIs, FirstIs, Dummy, dummy}
 use Rattle.stg.specs.Numbers.{NoNumber, SomeNumber}
+use Rattle.terms.specs.declared.Refusal.TheVariants.{DummyLine, FirstLine, TaskLine}
 
 -- ---- the line at hand
 
@@ -38,10 +33,6 @@ rest_line (b ∷ s) = ap lines_after (lines_cons b s)
 pub lines_at : (s : List ℕ) (i : ℕ) → i < length s → lines (drop i s) ≡ line (drop i s) ∷ later (drop i s)
 lines_at s i h = rw (drop-cons s i 0 h) (lines_cons (get_or s i 0) (drop (suc i) s))
 
--- the refusal that was made with a number
-pub made : {reading : Reading} {refusal : Refusal} {k : ℕ} → reading ≡ refuse (refusal_of k) → refusal ≡ refusal_of k → reading ≡ refuse refusal
-made q e = q ∙ ap refuse (sym e)
-
 -- ---- a line that fails a test of its numbers
 
 fails : (s t : Bool) → (s ≡ true → t ≡ false) → (s && t) ≡ false
@@ -51,11 +42,11 @@ fails false t h = refl
 -- ---- the first line
 
 module _ (text : List ℕ) where
-  not_first : (proper (line text) ≡ true → is_size (numbers (line text)) ≡ false) → read_lines (lines text) ≡ refuse (refusal_of 21)
+  not_first : (proper (line text) ≡ true → is_size (numbers (line text)) ≡ false) → read_lines (lines text) ≡ refuse FirstLine
   unfolding read_lines is_first
   not_first h = rw (top_line text, fails (proper (line text)) (is_size (numbers (line text))) h)
 
-  pub first_none : NoNumber text 0 → read_lines (lines text) ≡ refuse (refusal_of 21)
+  pub first_none : NoNumber text 0 → read_lines (lines text) ≡ refuse FirstLine
   unfolding is_size
   first_none h = not_first (λ s. rw (h s))
 
@@ -65,7 +56,7 @@ module _ {text : List ℕ} {n e : ℕ} (p : Passed text 0 n e) where
   two_sizes [] h = absurd (omega arith)
   two_sizes (m ∷ ns) h = refl
 
-  pub first_more : SomeNumber text e → read_lines (lines text) ≡ refuse (refusal_of 21)
+  pub first_more : SomeNumber text e → read_lines (lines text) ≡ refuse FirstLine
   first_more h =
       not_first text
       (λ s. let r = sym p.sound ∙ s in ap is_size (p.some r) ∙ two_sizes (numbers (line (drop e text))) (h r))
@@ -78,10 +69,10 @@ module _ {text : List ℕ} {n e : ℕ} (p : Passed text 0 n e) where
     unfolding is_size
     size = rw one
 
-    pub first_low : n < 1 → read_lines (lines text) ≡ refuse (refusal_of 21)
+    pub first_low : n < 1 → read_lines (lines text) ≡ refuse FirstLine
     first_low l = not_first text (λ _. rw (size, lt-leb 1 n l))
 
-    pub first_high : 256 < n → read_lines (lines text) ≡ refuse (refusal_of 21)
+    pub first_high : 256 < n → read_lines (lines text) ≡ refuse FirstLine
     first_high l = not_first text (λ _. rw (size, lt-leb n 256 l, and-false))
 
     pub first_is : 1 ≤ n → n ≤ 256 → FirstIs text n f
@@ -174,15 +165,6 @@ module _ (text : List ℕ) (at i : ℕ) where
                 });
           }
 
--- what a reply that is known tells: of the predecessors, of a task's line
-pub preceded : (text : List ℕ) (at i : ℕ) (row : List (List ℕ)) (a : ℕ) (row' : List (List ℕ)) (r x : Option Rest) → r ≡ x
-    → PredecessorsOf text at i row a row' r → PredecessorsOf text at i row a row' x
-preceded text at i row a row' r x e h = rw e at h
-
-pub tasked : (text : List ℕ) (at i : ℕ) (row : List (List ℕ)) (a : ℕ) (row' : List (List ℕ)) (r x : Option TaskLine) → r ≡ x → TaskOf text at i row a row' r
-    → TaskOf text at i row a row' x
-tasked text at i row a row' r x e h = rw e at h
-
 -- ---- a dummy's line
 
 all_below_0 : (ps : List ℕ) → all_pass (λ p. ltb p 0) ps ≡ eqb (length ps) 0
@@ -198,7 +180,7 @@ pub exit_line_lem : (i : ℕ) (s : List ℕ) → exit_line i (lines s) ≡ dummy
 unfolding exit_line
 exit_line_lem i s = rw (top_line s, rest_line s)
 
-pub dummy_bad : (i : ℕ) (l : List ℕ) → is_task i l ≡ false → (r : Reading) → dummy i l r ≡ refuse (refusal_of 22)
+pub dummy_bad : (i : ℕ) (l : List ℕ) → is_task i l ≡ false → (r : Reading) → dummy i l r ≡ refuse TaskLine
 dummy_bad i l e r = rw e
 
 module _ {text : List ℕ} {at i : ℕ} {row : List (List ℕ)} {a t : ℕ} {below : Bool} {b e : ℕ} {row' : List (List ℕ)}
@@ -207,15 +189,11 @@ module _ {text : List ℕ} {at i : ℕ} {row : List (List ℕ)} {a t : ℕ} {bel
   unfolding is_exit_dummy
   is_dummy = rw (h.time, h.gives.each)
 
-  pub dummy_time : (t ≡ 0 → ⊥) → (r : Reading) → dummy i (line (drop at text)) r ≡ refuse (refusal_of 23)
+  pub dummy_time : (t ≡ 0 → ⊥) → (r : Reading) → dummy i (line (drop at text)) r ≡ refuse DummyLine
   dummy_time z r = rw (h.shaped, is_dummy, ne_eqb t 0 z)
 
-  pub dummy_far : below ≡ false → (r : Reading) → dummy i (line (drop at text)) r ≡ refuse (refusal_of 23)
+  pub dummy_far : below ≡ false → (r : Reading) → dummy i (line (drop at text)) r ≡ refuse DummyLine
   dummy_far z r = rw (h.shaped, is_dummy, z, and-false)
 
   pub dummy_is : t ≡ 0 → below ≡ true → Dummy text at i e
   dummy_is y z = record { does = λ r. rw (h.shaped, is_dummy, eq-eqb t 0 y, z); next = h.gives.next; inside = h.gives.inside }
-
--- what a reply that is known tells
-pub dummied : (text : List ℕ) (at i : ℕ) (r x : Passage) → r ≡ x → DummyOf text at i r → DummyOf text at i x
-dummied text at i r x e h = rw e at h

@@ -8,52 +8,43 @@ use borrow.Author.Tests.{le-leb, lt-leb}
 use lib.Dec.{leb}
 use lib.ListN.{length, take, drop, length-map, length-take}
 use lib.Seq.{sets, sets-eq, take_at}
-use Rattle.terms.specs.Rows.{Accepted, refusal_of}
+use Rattle.terms.specs.Rows.{Accepted}
 use Rattle.terms.specs.Graphs.{Among}
 use Rattle.terms.specs.Refusals.{time_and_arrow_rows}
 use Rattle.terms.specs.Replies.{IsCheck}
 use Rattle.terms.specs.Texts.{lines}
 use Rattle.terms.specs.Readings.{Reading, refuse, graph, need, read_lines, read_text, IsReplyTo, IsRead}
-use Rattle.terms.specs.declared.Check.{Check}
-use Rattle.terms.specs.declared.Check.TheVariants as check
-use Rattle.terms.specs.declared.Counts.{Counts}
-use Rattle.terms.specs.declared.Counts.TheVariants as counts
 use Rattle.terms.specs.declared.GraphSize.{GraphSize}
 use Rattle.terms.specs.declared.Refusal.{Refusal}
 use Rattle.stg.specs.LinesRead.{hold, Fails, Rows, outcome, Leaves}
 use Rattle.stg.specs.RowsRead.{AllPairs, Stored, ChecksRead, RoomOf, IsRefusalOf, Begins, TellsOf, kept_by, ClearedPast}
 use Rattle.stg.proofs.TwoEnds.{PairsIn, pairs_reading}
 use Rattle.stg.proofs.Clipped.{unclipped, accepted_first_rows}
+use Rattle.std.specs.Prelude.{Result, Ok, Err}
+use Rattle.terms.specs.declared.Refusal.TheVariants.{Room, TextLength}
 
 -- ---- what is asked first
 
 module _ (times_room arrows_room size : ℕ) (reading : Reading) where
   abbrev asked : Reading
-  asked = need (leb 256 times_room && leb 2048 arrows_room) 11 (need (leb size 60000) 20 reading)
+  asked = need (leb 256 times_room && leb 2048 arrows_room) Room (need (leb size 60000) TextLength reading)
 
-  pub short_times : times_room < 256 → asked ≡ refuse (refusal_of 11)
+  pub short_times : times_room < 256 → asked ≡ refuse Room
   short_times h = rw (lt-leb 256 times_room h)
 
-  pub short_arrows : 256 ≤ times_room → arrows_room < 2048 → asked ≡ refuse (refusal_of 11)
+  pub short_arrows : 256 ≤ times_room → arrows_room < 2048 → asked ≡ refuse Room
   short_arrows h k = rw (le-leb 256 times_room h, lt-leb 2048 arrows_room k)
 
-  pub long_text : 256 ≤ times_room → 2048 ≤ arrows_room → 60000 < size → asked ≡ refuse (refusal_of 20)
+  pub long_text : 256 ≤ times_room → 2048 ≤ arrows_room → 60000 < size → asked ≡ refuse TextLength
   long_text h k l = rw (le-leb 256 times_room h, le-leb 2048 arrows_room k, lt-leb size 60000 l)
 
 refused_by : (reading : Reading) (refusal : Refusal) → reading ≡ refuse refusal → IsRefusalOf reading refusal
 refused_by reading refusal e = rw e
 
 module _ (times_room arrows_room : ℕ) (text : List ℕ) where
-  module _ (r : Check) (h : RoomOf times_room arrows_room (length text) r) where
-    fits : (x : Check) → r ≡ x → RoomOf times_room arrows_room (length text) x
-    fits x e = rw e at h
-
-    pub no_fit : (refusal : Refusal) → r ≡ check.Refused refusal → IsRefusalOf (read_text times_room arrows_room text) refusal
-    unfolding read_text
-    no_fit refusal e = refused_by _ refusal (fits (check.Refused refusal) e (read_lines (lines text)))
-
-    pub room : r ≡ check.Sound → (256 ≤ times_room) × (2048 ≤ arrows_room) × (length text ≤ 60000)
-    room e = fits check.Sound e
+  pub no_fit : (refusal : Refusal) → RoomOf times_room arrows_room (length text) (Err refusal) → IsRefusalOf (read_text times_room arrows_room text) refusal
+  unfolding read_text
+  no_fit refusal h = refused_by _ refusal (h (read_lines (lines text)))
 
   fit_text : (256 ≤ times_room) × (2048 ≤ arrows_room) × (length text ≤ 60000) → read_text times_room arrows_room text ≡ read_lines (lines text)
   unfolding read_text
@@ -82,22 +73,6 @@ got_graph (graph us bs) ts ar ts' ar' n a e =
     let t : 0 + length us ≡ n = cc in
     let b : 0 + length bs ≡ a = cc in
     record { us = us; bs = bs; is = refl; times = cc; arrows = cc; n_is = omega arith; a_is = omega arith }
-
-module _ (reading : Reading) (ts : List ℕ) (ar : List (List ℕ)) (ts' : List ℕ) (ar' : List (List ℕ)) (r : Counts) (o : Leaves ts ar reading ts' ar' r) where
-  leaves : (x : Counts) → r ≡ x → Leaves ts ar reading ts' ar' x
-  leaves x e = rw e at o
-
-  lines_refused : (refusal : Refusal) → r ≡ counts.Refused refusal → reading ≡ refuse refusal
-  unfolding Leaves
-  lines_refused refusal e = fails_read refusal reading ts ar (leaves (counts.Refused refusal) e)
-
-  lines_sized : (size : GraphSize) → r ≡ counts.Read size → Among 1 256 size.subtasks
-  unfolding Leaves
-  lines_sized size e = (leaves (counts.Read size) e).1
-
-  lines_read : (size : GraphSize) → r ≡ counts.Read size → Got reading ts ar ts' ar' size.subtasks size.arrows
-  unfolding Leaves
-  lines_read size e = got_graph reading ts ar ts' ar' size.subtasks size.arrows (leaves (counts.Read size) e).0
 
 -- values laid at the front of a row
 laid : {A : Type 0} (xs row : List A) → length xs ≤ length row → take (length xs) (sets row 0 xs) ≡ xs
@@ -130,8 +105,8 @@ module _ (text ts : List ℕ) (ar : List (List ℕ)) (ts' : List ℕ) (ar' : Lis
   front : take (length g.us) ts' ≡ g.us
   front = rw g.times (laid g.us ts (omega (arith, few)))
 
-  checked : (r x : Check) → r ≡ x → ChecksRead ts' n ar' a r → IsCheck (time_and_arrow_rows g.us g.bs) x
-  checked r x e f = let k : take n ts' ≡ g.us = ap (λ (m : ℕ). take m ts') g.n_is ∙ front in rw (← e, ← k) (f g.bs stored)
+  checked : (r : Result (Unit {0}) Refusal) → ChecksRead ts' n ar' a r → IsCheck (time_and_arrow_rows g.us g.bs) r
+  checked r f = let k : take n ts' ≡ g.us = ap (λ (m : ℕ). take m ts') g.n_is ∙ front in rw (← k) (f g.bs stored)
 
   begins : (size : GraphSize) → size.subtasks ≡ n → size.arrows ≡ a → Accepted (time_and_arrow_rows g.us g.bs) → Begins g.us g.bs ts' ar' size
   begins size p q x =
@@ -146,53 +121,56 @@ module _ (text ts : List ℕ) (ar : List (List ℕ)) (ts' : List ℕ) (ar' : Lis
       }
 
 module _ (text ts : List ℕ) (ar : List (List ℕ)) (ts' : List ℕ) (ar' : List (List ℕ))
-    (fit : (256 ≤ length ts) × (2048 ≤ length ar) × (length text ≤ 60000)) (lr : Counts) (o : Leaves ts ar (read_lines (lines text)) ts' ar' lr) where
-  pub told_lines : (refusal : Refusal) → lr ≡ counts.Refused refusal → IsRefusalOf (read_text (length ts) (length ar) text) refusal
-  told_lines refusal e = refused_by _ refusal (fit_text (length ts) (length ar) text fit ∙ lines_refused (read_lines (lines text)) ts ar ts' ar' lr o refusal e)
+    (fit : (256 ≤ length ts) × (2048 ≤ length ar) × (length text ≤ 60000)) where
+  pub told_lines : (refusal : Refusal) → Leaves ts ar (read_lines (lines text)) ts' ar' (Err refusal)
+      → IsRefusalOf (read_text (length ts) (length ar) text) refusal
+  unfolding Leaves
+  told_lines refusal o = refused_by _ refusal (fit_text (length ts) (length ar) text fit ∙ fails_read refusal (read_lines (lines text)) ts ar o)
 
-  module _ (size : GraphSize) (q : lr ≡ counts.Read size) where
+  module _ (size : GraphSize) (o : Leaves ts ar (read_lines (lines text)) ts' ar' (Ok size)) where
     pub sized : Among 1 256 size.subtasks
-    sized = lines_sized (read_lines (lines text)) ts ar ts' ar' lr o size q
+    unfolding Leaves
+    sized = o.1
 
     got : Got (read_lines (lines text)) ts ar ts' ar' size.subtasks size.arrows
-    got = lines_read (read_lines (lines text)) ts ar ts' ar' lr o size q
+    unfolding Leaves
+    got = got_graph (read_lines (lines text)) ts ar ts' ar' size.subtasks size.arrows o.0
 
     is : read_text (length ts) (length ar) text ≡ graph got.us got.bs
     is = fit_text (length ts) (length ar) text fit ∙ got.is
 
-    module _ (r : Check) (f : ChecksRead ts' size.subtasks ar' size.arrows r) where
-      tells_check : (x : Check) → r ≡ x → IsCheck (time_and_arrow_rows got.us got.bs) x
-      tells_check x e = checked text ts ar ts' ar' size.subtasks size.arrows fit.0 fit.1 sized.high got r x e f
+    tells_check : (r : Result (Unit {0}) Refusal) → ChecksRead ts' size.subtasks ar' size.arrows r → IsCheck (time_and_arrow_rows got.us got.bs) r
+    tells_check r f = checked text ts ar ts' ar' size.subtasks size.arrows fit.0 fit.1 sized.high got r f
 
-      pub told_read : r ≡ check.Sound → TellsOf (read_text (length ts) (length ar) text) ts' ar' (counts.Read size)
-      unfolding IsCheck
-      told_read e =
-          rw is (begins text ts ar ts' ar' size.subtasks size.arrows fit.0 fit.1 sized.high got size refl refl (tells_check check.Sound e))
+    pub told_read : ChecksRead ts' size.subtasks ar' size.arrows (Ok tt) → TellsOf (read_text (length ts) (length ar) text) ts' ar' (Ok size)
+    unfolding IsCheck
+    told_read f = rw is (begins text ts ar ts' ar' size.subtasks size.arrows fit.0 fit.1 sized.high got size refl refl (tells_check (Ok tt) f))
 
-      pub told_check : (refusal : Refusal) → r ≡ check.Refused refusal → IsRefusalOf (read_text (length ts) (length ar) text) refusal
-      unfolding IsCheck
-      told_check refusal e = rw is (tells_check (check.Refused refusal) e)
+    pub told_check : (refusal : Refusal) → ChecksRead ts' size.subtasks ar' size.arrows (Err refusal)
+        → IsRefusalOf (read_text (length ts) (length ar) text) refusal
+    unfolding IsCheck
+    told_check refusal f = rw is (tells_check (Err refusal) f)
 
 -- ---- the reply
 
 -- it keeps no more than the two rows have
-pub kept_within : (reading : Reading) (ts : List ℕ) (ar : List (List ℕ)) (r : Counts) → TellsOf reading ts ar r
+pub kept_within : (reading : Reading) (ts : List ℕ) (ar : List (List ℕ)) (r : Result GraphSize Refusal) → TellsOf reading ts ar r
     → ((kept_by r).subtasks ≤ length ts) × ((kept_by r).arrows ≤ length ar)
-kept_within reading ts ar (counts.Refused refusal) x = (omega arith, omega arith)
-kept_within (refuse k) ts ar (counts.Read size) x = absurd x
-kept_within (graph us bs) ts ar (counts.Read size) x = (
+kept_within reading ts ar (Err refusal) x = (omega arith, omega arith)
+kept_within (refuse k) ts ar (Ok size) x = absurd x
+kept_within (graph us bs) ts ar (Ok size) x = (
   omega (arith, x.subtasks_are, ap length x.times_begin, length-take (length us) ts),
   omega (arith, x.arrows_are, ap length x.arrows_begin, length-take (length bs) ar),
 )
 
 module _ (L M : ℕ) (ts : List ℕ) (ar : List (List ℕ)) (lt : length ts ≡ L) (la : length ar ≡ M) (ts' : List ℕ) (ar' : List (List ℕ)) where
-  replies : (reading : Reading) (r : Counts) → TellsOf reading ts ar r → ClearedPast (kept_by r).subtasks ts ts' (kept_by r).arrows ar ar'
+  replies : (reading : Reading) (r : Result GraphSize Refusal) → TellsOf reading ts ar r → ClearedPast (kept_by r).subtasks ts ts' (kept_by r).arrows ar ar'
       → IsReplyTo reading L M ts' ar' r
   unfolding IsReplyTo
-  replies (refuse k) (counts.Read size) x c = absurd x
-  replies (refuse k) (counts.Refused refusal) x c = (x, record { times_held = c.times_past ∙ rw lt; arrows_held = c.arrows_past ∙ rw la })
-  replies (graph us bs) (counts.Refused refusal) x c = (x, record { times_held = c.times_past ∙ rw lt; arrows_held = c.arrows_past ∙ rw la })
-  replies (graph us bs) (counts.Read size) x c = (
+  replies (refuse k) (Ok size) x c = absurd x
+  replies (refuse k) (Err refusal) x c = (x, record { times_held = c.times_past ∙ rw lt; arrows_held = c.arrows_past ∙ rw la })
+  replies (graph us bs) (Err refusal) x c = (x, record { times_held = c.times_past ∙ rw lt; arrows_held = c.arrows_past ∙ rw la })
+  replies (graph us bs) (Ok size) x c = (
     x.accepted,
     x.subtasks_are,
     x.arrows_are,
@@ -202,6 +180,6 @@ module _ (L M : ℕ) (ts : List ℕ) (ar : List (List ℕ)) (lt : length ts ≡ 
     },
   )
 
-  pub reply : (text : List ℕ) (r : Counts) (kept : GraphSize) → kept ≡ kept_by r → TellsOf (read_text L M text) ts ar r
+  pub reply : (text : List ℕ) (r : Result GraphSize Refusal) (kept : GraphSize) → kept ≡ kept_by r → TellsOf (read_text L M text) ts ar r
       → ClearedPast kept.subtasks ts ts' kept.arrows ar ar' → IsRead L M text ts' ar' r
   reply text r kept e x c = replies (read_text L M text) r x (rw e at c)

@@ -11,13 +11,13 @@ use lib.Seq.{sets}
 use lib.Dec.{leb}
 use Rattle.terms.specs.Texts.{lines}
 use Rattle.text.specs.Rest.{line, later}
-use Rattle.terms.specs.Rows.{refusal_of}
 use Rattle.terms.specs.Readings.{Reading, refuse, graph, need, is_task, time_in, predecessors_in, arrows_into, with_task, task_lines, exit_line}
 use Rattle.terms.specs.declared.Refusal.{Refusal}
 use Rattle.theory.proofs.Stores.{sets_append}
 use Rattle.stg.specs.LinesRead.{hold, TaskIs, Fails, Rows, outcome, OneSubtask, AllSubtasks}
 use Rattle.stg.proofs.AddedArrows.{map_hold}
 use Rattle.stg.proofs.OneLine.{top_line, rest_line}
+use Rattle.terms.specs.declared.Refusal.TheVariants.{TaskLine, TimeLarge}
 
 rows : (ts ts' : List ℕ) (ar ar' : List (List ℕ)) (j j' a a' : ℕ) → ts ≡ ts' → ar ≡ ar' → j ≡ j' → a ≡ a' → Rows ts ar j a ≡ Rows ts' ar' j' a'
 rows ts ts' ar ar' j j' a a' p q r s = cc
@@ -37,17 +37,17 @@ outcome_join ts ar j a t bs (graph us cs) =
 module _ (text : List ℕ) (at j : ℕ) where
   -- a subtask's line
   task_line : (k : ℕ)
-      → task_lines (j + 1) (suc k) (lines (drop at text)) ≡ need (is_task (j + 1) (line (drop at text))) 22
-      (need (leb (time_in (line (drop at text))) 65535) 24
+      → task_lines (j + 1) (suc k) (lines (drop at text)) ≡ need (is_task (j + 1) (line (drop at text))) TaskLine
+      (need (leb (time_in (line (drop at text))) 65535) TimeLarge
       (with_task (time_in (line (drop at text))) (arrows_into (j + 1) (predecessors_in (line (drop at text)))) (task_lines (j + 1 + 1) k (later (drop at text)))))
   unfolding task_lines
   task_line k = rw (top_line (drop at text), rest_line (drop at text))
 
-  pub subtask_bad : is_task (j + 1) (line (drop at text)) ≡ false → (k : ℕ) → task_lines (j + 1) (suc k) (lines (drop at text)) ≡ refuse (refusal_of 22)
+  pub subtask_bad : is_task (j + 1) (line (drop at text)) ≡ false → (k : ℕ) → task_lines (j + 1) (suc k) (lines (drop at text)) ≡ refuse TaskLine
   subtask_bad e k = task_line k ∙ rw e
 
   module _ {ar : List (List ℕ)} {a t : ℕ} {below : Bool} {b e : ℕ} {ar' : List (List ℕ)} (h : TaskIs text at (j + 1) ar a t below b e ar') where
-    pub subtask_long : 65535 < t → (k : ℕ) → task_lines (j + 1) (suc k) (lines (drop at text)) ≡ refuse (refusal_of 24)
+    pub subtask_long : 65535 < t → (k : ℕ) → task_lines (j + 1) (suc k) (lines (drop at text)) ≡ refuse TimeLarge
     subtask_long l k = task_line k ∙ rw (h.shaped, h.time, lt-leb t 65535 l)
 
     task_joins : t ≤ 65535 → (k : ℕ)

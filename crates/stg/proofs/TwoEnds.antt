@@ -6,6 +6,8 @@ use Prim.Native.Nat.{ℕ, zero, suc, ◌+◌}
 use lib.Dec.{eqb, leb}
 use Rattle.terms.specs.Readings.{Reading, refuse, graph, need, line_at_hand, lines_after, is_task, is_exit_dummy, is_entry_dummy, is_first, may_follow, time_in}
 use Rattle.terms.specs.Readings.{predecessors_in, size_in, arrows_into, with_task, trailer, exit_line, task_lines, entry_line, read_lines}
+use Rattle.terms.specs.declared.Refusal.{Refusal}
+use Rattle.terms.specs.declared.Refusal.TheVariants.{FirstLine, TaskLine, DummyLine, TimeLarge}
 use Rattle.stg.specs.RowsRead.{AllPairs}
 
 pairs_append : (xs ys : List (List ℕ)) → AllPairs xs → AllPairs ys → AllPairs (xs ++ ys)
@@ -25,7 +27,7 @@ abbrev pub PairsIn : Reading → Type 0
 PairsIn (refuse k) = Unit {0}
 PairsIn (graph ts bs) = AllPairs bs
 
-pairs_need : (t : Bool) (k : ℕ) (r : Reading) → PairsIn r → PairsIn (need t k r)
+pairs_need : (t : Bool) (k : Refusal) (r : Reading) → PairsIn r → PairsIn (need t k r)
 pairs_need true k r h = h
 pairs_need false k r h = tt
 
@@ -37,13 +39,13 @@ pairs_join t bs (graph ts cs) p h = pairs_append bs cs p h
 pairs_spares : (ls : List (List ℕ)) → PairsIn (trailer ls)
 unfolding trailer
 pairs_spares [] = tt
-pairs_spares (l ∷ ls) = pairs_need (may_follow l) 22 (trailer ls) (pairs_spares ls)
+pairs_spares (l ∷ ls) = pairs_need (may_follow l) TaskLine (trailer ls) (pairs_spares ls)
 
 pairs_exit : (i : ℕ) (ls : List (List ℕ)) → PairsIn (exit_line i ls)
 unfolding exit_line
 pairs_exit i ls =
-    pairs_need (is_task i (line_at_hand ls)) 22 (need (is_exit_dummy i (line_at_hand ls)) 23 (trailer (lines_after ls)))
-    (pairs_need (is_exit_dummy i (line_at_hand ls)) 23 (trailer (lines_after ls)) (pairs_spares (lines_after ls)))
+    pairs_need (is_task i (line_at_hand ls)) TaskLine (need (is_exit_dummy i (line_at_hand ls)) DummyLine (trailer (lines_after ls)))
+    (pairs_need (is_exit_dummy i (line_at_hand ls)) DummyLine (trailer (lines_after ls)) (pairs_spares (lines_after ls)))
 
 pairs_tasks : (i k : ℕ) (ls : List (List ℕ)) → PairsIn (task_lines i k ls)
 unfolding task_lines
@@ -52,14 +54,14 @@ pairs_tasks i (suc k) ls =
     let t = time_in (line_at_hand ls) in
     let bs = arrows_into i (predecessors_in (line_at_hand ls)) in
     let r = task_lines (i + 1) k (lines_after ls) in
-    pairs_need (is_task i (line_at_hand ls)) 22 (need (leb t 65535) 24 (with_task t bs r))
-    (pairs_need (leb t 65535) 24 (with_task t bs r) (pairs_join t bs r (pairs_into i (predecessors_in (line_at_hand ls))) (pairs_tasks (i + 1) k (lines_after ls))))
+    pairs_need (is_task i (line_at_hand ls)) TaskLine (need (leb t 65535) TimeLarge (with_task t bs r))
+    (pairs_need (leb t 65535) TimeLarge (with_task t bs r) (pairs_join t bs r (pairs_into i (predecessors_in (line_at_hand ls))) (pairs_tasks (i + 1) k (lines_after ls))))
 
 pub pairs_reading : (ls : List (List ℕ)) → PairsIn (read_lines ls)
 unfolding read_lines entry_line
 pairs_reading ls =
     let m = lines_after ls in
     let r = task_lines 1 (size_in (line_at_hand ls)) (lines_after m) in
-    pairs_need (is_first (line_at_hand ls)) 21 (need (is_task 0 (line_at_hand m)) 22 (need (is_entry_dummy (line_at_hand m)) 23 r))
-    (pairs_need (is_task 0 (line_at_hand m)) 22 (need (is_entry_dummy (line_at_hand m)) 23 r)
-    (pairs_need (is_entry_dummy (line_at_hand m)) 23 r (pairs_tasks 1 (size_in (line_at_hand ls)) (lines_after m))))
+    pairs_need (is_first (line_at_hand ls)) FirstLine (need (is_task 0 (line_at_hand m)) TaskLine (need (is_entry_dummy (line_at_hand m)) DummyLine r))
+    (pairs_need (is_task 0 (line_at_hand m)) TaskLine (need (is_entry_dummy (line_at_hand m)) DummyLine r)
+    (pairs_need (is_entry_dummy (line_at_hand m)) DummyLine r (pairs_tasks 1 (size_in (line_at_hand ls)) (lines_after m))))

@@ -1,22 +1,17 @@
 -- What the reader's functions for one line and for several answer, of a text from a place on.
-use Rattle.std.specs.Prelude.{◌≡◌, List, [], ◌∷◌, map, Bool, true, false, cond, ℕ, suc, ◌+◌, ◌≤◌, ◌<◌, leb, ltb, length, get_or, drop, Option, Some, None}
+use Rattle.std.specs.Prelude.{◌≡◌, List, [], ◌∷◌, map, Bool, true, false, cond, ℕ, suc, ◌+◌, ◌≤◌, ◌<◌, leb, ltb, length, get_or, drop, Option, Some, None, Result, Ok, Err}
 use Rattle.std.proofs.lemmas.List.Edits.{sets}
 use Rattle.terms.specs.Graphs.{Among}
 use Rattle.terms.specs.Texts.{all_pass, lines, proper, numbers}
 use Rattle.terms.specs.Readings.{Reading, refuse, graph, need, read_lines, entry_line, task_lines, exit_line, is_task, is_exit_dummy, time_in, predecessors_in}
 use Rattle.terms.specs.Readings.{may_follow, arrows_into}
 use Rattle.terms.specs.declared.Refusal.{Refusal}
-use Rattle.terms.specs.declared.Check.{Check}
-use Rattle.terms.specs.declared.Check.TheVariants as check
-use Rattle.terms.specs.declared.Counts.{Counts}
-use Rattle.terms.specs.declared.Counts.TheVariants as counts
+use Rattle.terms.specs.declared.Refusal.TheVariants.{TaskLine, DummyLine}
 use Rattle.text.specs.Rest.{line, later}
 use Rattle.stg.specs.declared.predecessors.Rest.{Rest}
-use Rattle.stg.specs.declared.tasks.TaskLine.{TaskLine}
-use Rattle.stg.specs.declared.tasks.Step.{Step}
-use Rattle.stg.specs.declared.tasks.Step.TheVariants as step
-use Rattle.stg.specs.declared.outer_lines.Passage.{Passage}
-use Rattle.stg.specs.declared.outer_lines.Passage.TheVariants as passage
+use Rattle.stg.specs.declared.tasks.Task.{Task}
+use Rattle.stg.specs.declared.tasks.Progress.{Progress}
+use Rattle.terms.specs.declared.GraphSize.{GraphSize}
 
 -- ---- one line
 
@@ -73,7 +68,7 @@ pub record TaskIs (text : List ℕ) (at i : ℕ) (row : List (List ℕ)) (a t : 
   pub time : time_in (line (drop at text)) ≡ t
   pub gives : Gives text at i (predecessors_in (line (drop at text))) row a below b e row'
 
-abbrev pub TaskOf : List ℕ → ℕ → ℕ → List (List ℕ) → ℕ → List (List ℕ) → Option TaskLine → Type 0
+abbrev pub TaskOf : List ℕ → ℕ → ℕ → List (List ℕ) → ℕ → List (List ℕ) → Option Task → Type 0
 TaskOf text at i row a row' None = is_task i (line (drop at text)) ≡ false
 TaskOf text at i row a row' (Some line) = TaskIs text at i row a line.time line.below line.arrows line.next row'
 
@@ -94,18 +89,18 @@ pub record OneSubtask (text : List ℕ) (at j a : ℕ) (ts : List ℕ) (ar : Lis
   pub inside : e ≤ length text
   pub few : b ≤ e
 
-abbrev pub SubtaskOf : List ℕ → ℕ → ℕ → ℕ → List ℕ → List (List ℕ) → List ℕ → List (List ℕ) → Step → Type 0
-SubtaskOf text at j a ts ar ts' ar' (step.Refused refusal) = (k : ℕ) → task_lines (j + 1) (suc k) (lines (drop at text)) ≡ refuse refusal
-SubtaskOf text at j a ts ar ts' ar' (step.Counted far) = OneSubtask text at j a ts ar far.count far.next ts' ar'
+abbrev pub SubtaskOf : List ℕ → ℕ → ℕ → ℕ → List ℕ → List (List ℕ) → List ℕ → List (List ℕ) → Result Progress Refusal → Type 0
+SubtaskOf text at j a ts ar ts' ar' (Err refusal) = (k : ℕ) → task_lines (j + 1) (suc k) (lines (drop at text)) ≡ refuse refusal
+SubtaskOf text at j a ts ar ts' ar' (Ok far) = OneSubtask text at j a ts ar far.count far.next ts' ar'
 
 -- all subtasks' lines
 pub record AllSubtasks (text : List ℕ) (at n : ℕ) (ts : List ℕ) (ar : List (List ℕ)) (b e : ℕ) (ts' : List ℕ) (ar' : List (List ℕ)) : Type 0 where
   pub does : outcome ts ar 0 0 (task_lines 1 n (lines (drop at text))) ≡ outcome ts' ar' n b (exit_line (n + 1) (lines (drop e text)))
   pub inside : e ≤ length text
 
-abbrev pub SubtasksOf : List ℕ → ℕ → ℕ → List ℕ → List (List ℕ) → List ℕ → List (List ℕ) → Step → Type 0
-SubtasksOf text at n ts ar ts' ar' (step.Refused refusal) = outcome ts ar 0 0 (task_lines 1 n (lines (drop at text))) ≡ Fails refusal
-SubtasksOf text at n ts ar ts' ar' (step.Counted far) = AllSubtasks text at n ts ar far.count far.next ts' ar'
+abbrev pub SubtasksOf : List ℕ → ℕ → ℕ → List ℕ → List (List ℕ) → List ℕ → List (List ℕ) → Result Progress Refusal → Type 0
+SubtasksOf text at n ts ar ts' ar' (Err refusal) = outcome ts ar 0 0 (task_lines 1 n (lines (drop at text))) ≡ Fails refusal
+SubtasksOf text at n ts ar ts' ar' (Ok far) = AllSubtasks text at n ts ar far.count far.next ts' ar'
 
 -- ---- the other lines
 
@@ -115,22 +110,22 @@ pub record FirstIs (text : List ℕ) (n e : ℕ) : Type 0 where
   pub inside : e ≤ length text
   pub size : Among 1 256 n
 
-abbrev pub FirstOf : List ℕ → Step → Type 0
-FirstOf text (step.Refused refusal) = read_lines (lines text) ≡ refuse refusal
-FirstOf text (step.Counted far) = FirstIs text far.count far.next
+abbrev pub FirstOf : List ℕ → Result Progress Refusal → Type 0
+FirstOf text (Err refusal) = read_lines (lines text) ≡ refuse refusal
+FirstOf text (Ok far) = FirstIs text far.count far.next
 
 -- a dummy's line: time 0, predecessors below i
 abbrev pub dummy : ℕ → List ℕ → Reading → Reading
-dummy i l reading = need (is_task i l) 22 (need (is_exit_dummy i l) 23 reading)
+dummy i l reading = need (is_task i l) TaskLine (need (is_exit_dummy i l) DummyLine reading)
 
 pub record Dummy (text : List ℕ) (at i e : ℕ) : Type 0 where
   pub does : (reading : Reading) → dummy i (line (drop at text)) reading ≡ reading
   pub next : later (drop at text) ≡ lines (drop e text)
   pub inside : e ≤ length text
 
-abbrev pub DummyOf : List ℕ → ℕ → ℕ → Passage → Type 0
-DummyOf text at i (passage.Refused refusal) = (reading : Reading) → dummy i (line (drop at text)) reading ≡ refuse refusal
-DummyOf text at i (passage.Passed e) = Dummy text at i e
+abbrev pub DummyOf : List ℕ → ℕ → ℕ → Result ℕ Refusal → Type 0
+DummyOf text at i (Err refusal) = (reading : Reading) → dummy i (line (drop at text)) reading ≡ refuse refusal
+DummyOf text at i (Ok e) = Dummy text at i e
 
 -- a line that may stand after the last task's
 pub record Follower (text : List ℕ) (at e : ℕ) : Type 0 where
@@ -149,19 +144,19 @@ pub record Opened (text : List ℕ) (n e : ℕ) : Type 0 where
   pub inside : e ≤ length text
   pub size : Among 1 256 n
 
-abbrev pub OpeningOf : List ℕ → Step → Type 0
-OpeningOf text (step.Refused refusal) = read_lines (lines text) ≡ refuse refusal
-OpeningOf text (step.Counted far) = Opened text far.count far.next
+abbrev pub OpeningOf : List ℕ → Result Progress Refusal → Type 0
+OpeningOf text (Err refusal) = read_lines (lines text) ≡ refuse refusal
+OpeningOf text (Ok far) = Opened text far.count far.next
 
 -- what the lines after the last subtask's leave
-abbrev pub closed : Check → Reading
-closed check.Sound = graph [] []
-closed (check.Refused refusal) = refuse refusal
+abbrev pub closed : Result (Unit {0}) Refusal → Reading
+closed (Ok tt) = graph [] []
+closed (Err refusal) = refuse refusal
 
 -- ---- all lines
 
 -- all lines of a reading leave a refusal; or n subtasks, 1..256, and their arrows in the two rows
-unfoldable pub Leaves : List ℕ → List (List ℕ) → Reading → List ℕ → List (List ℕ) → Counts → Type 0
-Leaves ts ar reading ts' ar' (counts.Refused refusal) = outcome ts ar 0 0 reading ≡ Fails refusal
-Leaves ts ar reading ts' ar' (counts.Read size) =
+unfoldable pub Leaves : List ℕ → List (List ℕ) → Reading → List ℕ → List (List ℕ) → Result GraphSize Refusal → Type 0
+Leaves ts ar reading ts' ar' (Err refusal) = outcome ts ar 0 0 reading ≡ Fails refusal
+Leaves ts ar reading ts' ar' (Ok size) =
     (outcome ts ar 0 0 reading ≡ Rows ts' ar' size.subtasks size.arrows) × Among 1 256 size.subtasks

@@ -12,13 +12,13 @@ ghost use Rattle.terms.specs.Texts.{lines};
 ghost use Rattle.terms.specs.Readings.{task_lines, read_lines, read_text, IsRead};
 ghost use Rattle.terms.specs.Replies.{IsWritten};
 ghost use Rattle.stg.specs.LinesRead.{Leaves};
-ghost use Rattle.stg.specs.RowsRead.{ChecksRead, RoomOf, TellsOf, kept_by, ClearedPast};
+ghost use Rattle.stg.specs.RowsRead.{ChecksRead, RoomOf, TellsOf, ClearedPast};
 
 use graph::check;
 use limits::check_subtasks;
 use outer_lines::{take_closing, take_opening};
-use tasks::{Step, take_subtasks};
-use terms::{Check, Counts, GraphSize, LONGEST_TEXT, MOST_ARROWS, MOST_SUBTASKS, Written, refuse};
+use tasks::take_subtasks;
+use terms::{GraphSize, LONGEST_TEXT, MOST_ARROWS, MOST_SUBTASKS, Refusal};
 use writer::write_graph;
 
 // The lines from the first of n subtasks' on, the graph put down in the two rows.
@@ -28,92 +28,62 @@ fn read_tasks(
     n: usize,
     times: &mut [u16],
     arrows: &mut [[u16; 2]],
-) -> Counts
+) -> Result<GraphSize, Refusal>
     requires { (at ≤ length text.now) × Among 1 256 n × (256 ≤ length times.old) }
     ensures { Leaves times.old arrows.old (task_lines 1 n (lines (drop at text.now)))
         times.new arrows.new result }
 {
-    match take_subtasks(text, at, n, times, arrows) {
-        Step::Refused(refusal) => Counts::Refused(refusal),
-        Step::Counted(far) => match take_closing(text, far.next, n + 1) {
-            Check::Refused(refusal) => Counts::Refused(refusal),
-            Check::Sound => Counts::Read(GraphSize {
-                subtasks: n,
-                arrows: far.count,
-            }),
-        },
-    }
+    let far = take_subtasks(text, at, n, times, arrows)?;
+    take_closing(text, far.next, n + 1)?;
+    Ok(GraphSize {
+        subtasks: n,
+        arrows: far.count,
+    })
 }
 
 // All lines of a text, its graph put down in the two rows.
-fn read_lines(text: &[u8], times: &mut [u16], arrows: &mut [[u16; 2]]) -> Counts
+fn read_lines(text: &[u8], times: &mut [u16], arrows: &mut [[u16; 2]]) -> Result<GraphSize, Refusal>
     requires { 256 ≤ length times.old }
     ensures { Leaves times.old arrows.old (read_lines (lines text.now)) times.new arrows.new result }
 {
-    match take_opening(text) {
-        Step::Refused(refusal) => Counts::Refused(refusal),
-        Step::Counted(far) => read_tasks(text, far.next, far.count, times, arrows),
-    }
+    let first = take_opening(text)?;
+    read_tasks(text, first.next, first.count, times, arrows)
 }
 
 // 2 to 7, asked of a graph that was read. Of more than 2,048 arrows the row holds the first ones: only 2 or 3 can be the answer then.
-fn check_read(times: &[u16], n: usize, arrows: &[[u16; 2]], a: usize) -> Check
+fn check_read(times: &[u16], n: usize, arrows: &[[u16; 2]], a: usize) -> Result<(), Refusal>
     requires { (1 ≤ n) × (n ≤ 256) × (256 ≤ length times.now) × (2048 ≤ length arrows.now) }
     ensures { ChecksRead times.now n arrows.now a result }
 {
     if a <= MOST_ARROWS {
         return check(&times[..n], &arrows[..a]);
     }
-    match check_subtasks(&times[..n]) {
-        Check::Refused(refusal) => Check::Refused(refusal),
-        Check::Sound => Check::Refused(refuse(3)),
-    }
+    check_subtasks(&times[..n])?;
+    Err(Refusal::ArrowCount)
 }
 
 // Whether the two rows are long enough, and the text is short enough.
-fn check_room(times: usize, arrows: usize, text: usize) -> Check
+fn check_room(times: usize, arrows: usize, text: usize) -> Result<(), Refusal>
     ensures { RoomOf times arrows text result }
 {
-    if times < MOST_SUBTASKS {
-        return Check::Refused(refuse(11));
-    }
-    if arrows < MOST_ARROWS {
-        return Check::Refused(refuse(11));
+    if times < MOST_SUBTASKS || arrows < MOST_ARROWS {
+        return Err(Refusal::Room);
     }
     if LONGEST_TEXT < text {
-        return Check::Refused(refuse(20));
+        return Err(Refusal::TextLength);
     }
-    Check::Sound
+    Ok(())
 }
 
 // The reader, but for the places past the last time and the last arrow; with a refusal the rows may hold anything.
-fn read_graph(text: &[u8], times: &mut [u16], arrows: &mut [[u16; 2]]) -> Counts
+fn read_graph(text: &[u8], times: &mut [u16], arrows: &mut [[u16; 2]]) -> Result<GraphSize, Refusal>
     ensures { TellsOf (read_text (length times.old) (length arrows.old) text.now)
         times.new arrows.new result }
 {
-    match check_room(times.len(), arrows.len(), text.len()) {
-        Check::Refused(refusal) => Counts::Refused(refusal),
-        Check::Sound => match read_lines(text, times, arrows) {
-            Counts::Refused(refusal) => Counts::Refused(refusal),
-            Counts::Read(size) => match check_read(times, size.subtasks, arrows, size.arrows) {
-                Check::Refused(refusal) => Counts::Refused(refusal),
-                Check::Sound => Counts::Read(size),
-            },
-        },
-    }
-}
-
-// How much of the two rows a reply keeps: nothing with a refusal.
-fn kept_by(reply: Counts) -> GraphSize
-    ensures { result ≡ kept_by reply }
-{
-    match reply {
-        Counts::Read(size) => size,
-        Counts::Refused(_) => GraphSize {
-            subtasks: 0,
-            arrows: 0,
-        },
-    }
+    check_room(times.len(), arrows.len(), text.len())?;
+    let size = read_lines(text, times, arrows)?;
+    check_read(times, size.subtasks, arrows, size.arrows)?;
+    Ok(size)
 }
 
 // Clears the places of the two rows past the last time and the last arrow.
@@ -126,17 +96,24 @@ fn clear_past(times: &mut [u16], arrows: &mut [[u16; 2]], kept: GraphSize)
 }
 
 // Reads an STG text: the counts, and the graph in the two rows, with zeros past it; or a refusal, and rows of zeros.
-pub fn read_stg(text: &[u8], times: &mut [u16], arrows: &mut [[u16; 2]]) -> Counts
+pub fn read_stg(
+    text: &[u8],
+    times: &mut [u16],
+    arrows: &mut [[u16; 2]],
+) -> Result<GraphSize, Refusal>
     ensures { IsRead (length times.old) (length arrows.old) text.now times.new arrows.new result }
 {
     let reply = read_graph(text, times, arrows);
-    let kept = kept_by(reply);
+    let kept = reply.unwrap_or(GraphSize {
+        subtasks: 0,
+        arrows: 0,
+    });
     clear_past(times, arrows, kept);
     reply
 }
 
 // Writes the STG text of a graph to the front of the room, and answers how many bytes; or leaves the room as it was, and answers why.
-pub fn write_stg(times: &[u16], arrows: &[[u16; 2]], text: &mut [u8]) -> Written
+pub fn write_stg(times: &[u16], arrows: &[[u16; 2]], text: &mut [u8]) -> Result<usize, Refusal>
     ensures { IsWritten times.now arrows.now text.old text.new result }
 {
     write_graph(times, arrows, text)

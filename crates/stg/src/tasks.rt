@@ -4,11 +4,11 @@ ghost use Rattle.stg.specs.LinesRead.{TaskOf, SubtaskOf, SubtasksOf};
 
 use super::numbers::number;
 use super::predecessors::take_predecessors;
-use terms::{Refusal, refuse};
+use terms::Refusal;
 
 // A task's line: its time, whether its predecessors are all below its index, how many arrows there are then, and where the next line begins.
 #[derive(Clone, Copy)]
-pub struct TaskLine {
+pub struct Task {
     pub time: usize,
     pub below: bool,
     pub arrows: usize,
@@ -22,12 +22,6 @@ pub struct Progress {
     pub next: usize,
 }
 
-#[derive(Clone, Copy)]
-pub enum Step {
-    Refused(Refusal),
-    Counted(Progress),
-}
-
 // The line of task i: its index, its time, the number of its predecessors, and as many predecessors.
 pub fn task_line(
     text: &[u8],
@@ -35,7 +29,7 @@ pub fn task_line(
     i: usize,
     arrows: &mut [[u16; 2]],
     a: usize,
-) -> Option<TaskLine>
+) -> Option<Task>
     requires { (at ≤ length text.now) × (i < 65536) × (a ≤ at) }
     ensures { TaskOf text.now at i arrows.old a arrows.new result }
 {
@@ -49,7 +43,7 @@ pub fn task_line(
     if count != rest.count {
         return None;
     }
-    Some(TaskLine {
+    Some(Task {
         time,
         below: rest.below,
         arrows: rest.arrows,
@@ -65,19 +59,18 @@ fn take_subtask(
     times: &mut [u16],
     arrows: &mut [[u16; 2]],
     a: usize,
-) -> Step
+) -> Result<Progress, Refusal>
     requires { (at ≤ length text.now) × (j < 256) × (256 ≤ length times.old) × (a ≤ at) }
     ensures { SubtaskOf text.now at j a times.old arrows.old times.new arrows.new result }
 {
     let Some(line) = task_line(text, at, j + 1, arrows, a) else {
-        return Step::Refused(refuse(22));
+        return Err(Refusal::TaskLine);
     };
-    let t = line.time;
-    if 65535 < t {
-        return Step::Refused(refuse(24));
-    }
-    times[j] = t as u16;
-    Step::Counted(Progress {
+    let Ok(time) = u16::try_from(line.time) else {
+        return Err(Refusal::TimeLarge);
+    };
+    times[j] = time;
+    Ok(Progress {
         count: line.arrows,
         next: line.next,
     })
@@ -90,25 +83,13 @@ pub fn take_subtasks(
     n: usize,
     times: &mut [u16],
     arrows: &mut [[u16; 2]],
-) -> Step
+) -> Result<Progress, Refusal>
     requires { (at ≤ length text.now) × (n ≤ 256) × (256 ≤ length times.old) }
     ensures { SubtasksOf text.now at n times.old arrows.old times.new arrows.new result }
 {
-    let mut here = at;
-    let mut a: usize = 0;
+    let mut far = Progress { count: 0, next: at };
     for j in 0..n {
-        match take_subtask(text, here, j, times, arrows, a) {
-            Step::Refused(refusal) => {
-                return Step::Refused(refusal);
-            }
-            Step::Counted(far) => {
-                a = far.count;
-                here = far.next;
-            }
-        }
+        far = take_subtask(text, far.next, j, times, arrows, far.count)?;
     }
-    Step::Counted(Progress {
-        count: a,
-        next: here,
-    })
+    Ok(far)
 }

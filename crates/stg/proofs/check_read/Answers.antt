@@ -1,16 +1,9 @@
 -- `check_read`: 2 to 7 of a graph that was read, also where it has too many arrows. Assumes nothing.
-use mathlib.Core.Path.{◌≡◌, sym}
-use mathlib.Core.List.{List}
-use native.Mathlib.Omega.{arith}
-use lib.Seq.{length-take-le}
-use Rattle.terms.specs.Rows.{Row}
+use Rattle.std.proofs.Common.{sym, arith, length-take-le}
+use Rattle.std.proofs.lemmas.Result.{err_from_is_err_and}
 use Rattle.terms.specs.Replies.{IsCheck}
-use Rattle.terms.specs.declared.Check.{Check}
 use Rattle.stg.proofs.Clipped.{checks_few, checks_three, checks_two}
 use Rattle.stg.proofs.check_read.Goals as goal
-
-known : (rows : List Row) (r x : Check) → r ≡ x → IsCheck rows r → IsCheck rows x
-known rows r x e h = rw e at h
 
 pub slice_bounds-check-end : goal.slice_bounds-check-end
 slice_bounds-check-end c = sym (length-take-le _ _ (omega arith))
@@ -26,14 +19,14 @@ returns-then-a-le-MOST_ARROWS c =
 pub slice_bounds-check_subtasks-end : goal.slice_bounds-check_subtasks-end
 slice_bounds-check_subtasks-end c = sym (length-take-le _ _ (omega arith))
 
-pub returns-in-Refused : goal.returns-in-Refused
+pub returns-in_err-check_subtasks : goal.returns-in_err-check_subtasks
 unfolding IsCheck
-returns-in-Refused c =
-    checks_two c.args.times.now c.args.n c.args.arrows.now c.args.a (omega arith) (omega arith) (omega arith) _
-    (known _ _ _ c.in-Refused.is c.check_subtasks.ensures)
+returns-in_err-check_subtasks c =
+    let p = err_from_is_err_and c.from_residual.result c.from_residual.ensures.1 in
+    rw (p.1, p.2) (checks_two c.args.times.now c.args.n c.args.arrows.now c.args.a (omega arith) (omega arith) (omega arith) _ c.in_err-check_subtasks.ensures)
 
-pub returns-in-Sound : goal.returns-in-Sound
+pub returns : goal.returns
 unfolding IsCheck
-returns-in-Sound c =
+returns c =
     checks_three c.args.times.now c.args.n c.args.arrows.now c.args.a (omega arith) (omega arith) (omega arith) (omega arith)
-    (known _ _ _ c.in-Sound.is c.check_subtasks.ensures) c.refuse.ensures
+    c.in_ok-check_subtasks.ensures

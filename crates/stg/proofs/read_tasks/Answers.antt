@@ -1,31 +1,23 @@
 -- `read_tasks`: the subtasks' lines and the closing leave the reading from there on. Assumes nothing.
-use mathlib.Core.Path.{◌≡◌}
-use mathlib.Core.List.{List}
-use Prim.Native.Nat.{ℕ}
-use native.Mathlib.Omega.{arith}
-use Rattle.stg.specs.LinesRead.{SubtasksOf, Leaves}
-use Rattle.stg.specs.declared.tasks.Step.{Step}
+use Rattle.std.proofs.Common.{arith}
+use Rattle.std.proofs.lemmas.Result.{err_from_is_err_and}
+use Rattle.stg.specs.LinesRead.{Leaves}
 use Rattle.stg.proofs.AllLines.{closing_refused, closing_sound}
 use Rattle.stg.proofs.read_tasks.Goals as goal
 
-tasked : (text : List ℕ) (at n : ℕ) (ts : List ℕ) (ar : List (List ℕ)) (ts' : List ℕ) (ar' : List (List ℕ)) (r x : Step) → r ≡ x
-    → SubtasksOf text at n ts ar ts' ar' r → SubtasksOf text at n ts ar ts' ar' x
-tasked text at n ts ar ts' ar' r x e h = rw e at h
+pub returns-in_err-far : goal.returns-in_err-far
+unfolding Leaves
+returns-in_err-far c =
+    let p = err_from_is_err_and c.from_residual.result c.from_residual.ensures.1 in
+    rw (p.1, p.2) c.in_err-far.ensures
 
 pub take_closing-requires : goal.take_closing-requires
-take_closing-requires c =
-    (c.in-Counted.ensures.inside, omega arith)
+take_closing-requires c = (c.in_ok-far.ensures.inside, omega arith)
 
-pub returns-in-Refused : goal.returns-in-Refused
-unfolding Leaves
-returns-in-Refused c = c.in-Refused.ensures
+pub returns-in_err-take_closing : goal.returns-in_err-take_closing
+returns-in_err-take_closing c =
+    let p = err_from_is_err_and c.from_residual-in_err-take_closing.result c.from_residual-in_err-take_closing.ensures.1 in
+    rw (p.1, p.2) (closing_refused _ _ _ _ _ c.in_ok-far.ensures _ c.in_err-take_closing.ensures)
 
-pub returns-in-Refused-take_closing : goal.returns-in-Refused-take_closing
-returns-in-Refused-take_closing c =
-    closing_refused _ _ _ _ _ c.in-Counted.ensures c.take_closing.ensures _
-    c.in-Refused-take_closing.is
-
-pub returns-in-Sound : goal.returns-in-Sound
-returns-in-Sound c =
-    closing_sound _ _ _ _ _ c.in-Counted.ensures c.take_closing.ensures c.in-Sound.is
-    c.requires.1
+pub returns : goal.returns
+returns c = closing_sound _ _ _ _ _ c.in_ok-far.ensures c.in_ok-take_closing.ensures c.requires.1

@@ -5,15 +5,15 @@ use Rattle.theory.proofs.ReadSizes.{read_sizes}
 use Rattle.vectors.proofs.stored.reads_as.Goals as goal
 
 pub slice_bounds-again-end : goal.slice_bounds-again-end
-slice_bounds-again-end c = omega (arith, (read_sizes _ _ _ _ _ _ c.in-Read.ensures).0, c.read_stg.auto.times)
+slice_bounds-again-end c = omega (arith, (read_sizes _ _ _ _ _ _ c.in-Ok.ensures).0, c.read_stg.auto.times)
 
 pub slice_bounds-again_agrees-end : goal.slice_bounds-again_agrees-end
 slice_bounds-again_agrees-end c =
-    sym (length-take-le _ _ (omega (arith, (read_sizes _ _ _ _ _ _ c.in-Read.ensures).0, c.read_stg.auto.times)))
+    sym (length-take-le _ _ (omega (arith, (read_sizes _ _ _ _ _ _ c.in-Ok.ensures).0, c.read_stg.auto.times)))
 
 pub slice_bounds-arrows-end : goal.slice_bounds-arrows-end
-slice_bounds-arrows-end c = omega (arith, (read_sizes _ _ _ _ _ _ c.in-Read.ensures).1, c.read_stg.auto.arrows)
+slice_bounds-arrows-end c = omega (arith, (read_sizes _ _ _ _ _ _ c.in-Ok.ensures).1, c.read_stg.auto.arrows)
 
-pub slice_bounds-again_agrees-end-in-Read : goal.slice_bounds-again_agrees-end-in-Read
-slice_bounds-again_agrees-end-in-Read c =
-    sym (length-take-le _ _ (omega (arith, (read_sizes _ _ _ _ _ _ c.in-Read.ensures).1, c.read_stg.auto.arrows)))
+pub slice_bounds-again_agrees-end-in-Ok : goal.slice_bounds-again_agrees-end-in-Ok
+slice_bounds-again_agrees-end-in-Ok c =
+    sym (length-take-le _ _ (omega (arith, (read_sizes _ _ _ _ _ _ c.in-Ok.ensures).1, c.read_stg.auto.arrows)))

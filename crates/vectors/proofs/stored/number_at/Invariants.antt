@@ -1,9 +1,0 @@
--- `number_at` meets its contract. Assumes nothing.
-use Rattle.std.proofs.Common.{length, ◌-◌, ◌≤◌}
-use Rattle.vectors.proofs.stored.number_at.Given as goal
-
-abbrev pub invariant-loop-i : goal.invariant-loop-i
-invariant-loop-i l = l.at ≤ l.i
-
-abbrev pub decreases-loop-i : goal.decreases-loop-i
-decreases-loop-i l = length l.output - l.i
