@@ -1,7 +1,7 @@
 -- The scans over the processors and over the places of the order, turn by turn. Assumes nothing.
 use Rattle.std.proofs.Common.{◌≡◌, ◌≢◌, refl, ap, ◌∙◌, List, Bool, true, false, None, Some, ℕ, ◌+◌, ◌-◌, ◌*◌, ◌/◌, ◌≤◌, ◌<◌, min, length, get_or, set, take, drop, length-set, length-take, length-drop, arith, below_more}
-use Rattle.std.proofs.Math.Logic.{by_cases}
 use Rattle.std.proofs.Math.Decide.{dec_le, ℕ_discrete}
+use Rattle.std.proofs.Math.Logic.{by_cases}
 use Rattle.std.specs.List.{list_any}
 use Rattle.std.proofs.lemmas.List.{get_or-take, get_or-drop}
 use Rattle.std.proofs.lemmas.List.Folds.{list_any_at}
