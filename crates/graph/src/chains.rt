@@ -77,7 +77,7 @@ impl<'a> Chained<'a> {
     }
 
     // The subtask to which it goes.
-    pub fn destination(&self, c: usize) -> Subtask
+    pub fn sink(&self, c: usize) -> Subtask
         requires { (1 ≤ c) × (c ≤ length self.now.arrows.now) }
         ensures { (result.0 ≡ to_of self.now.arrows.now (c - 1)) × (result.0 < 65536) }
     {

@@ -49,7 +49,7 @@ pub fn order_subtasks(graph: &Chained<'_>, order: &mut [u16; 256]) -> Result<(),
                 }
                 depth -= 1;
                 let a = usize::from(stack[depth]);
-                let to = graph.destination(a);
+                let to = graph.sink(a);
                 u = to.0;
                 c = graph.after(a);
             }

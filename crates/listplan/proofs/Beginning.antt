@@ -1,12 +1,8 @@
 -- What the tables need of a sound graph and an order; and the beginning, with nothing placed. Assumes nothing.
-use mathlib.Core.Path.{◌≡◌, refl, ap}
-use mathlib.Core.Logic.{by_cases}
-use mathlib.Core.List.{List}
-use Rattle.std.specs.Prelude.{None}
-use Prim.Native.Nat.{ℕ, zero, suc, ◌-◌, ◌<◌}
-use native.Mathlib.Omega.{arith}
-use native.Mathlib.Decide.{dec_le}
-use lib.ListN.{length, get_or, replicate, length-replicate, get_or-replicate}
+use Rattle.std.proofs.Common.{◌≡◌, refl, ap, List, Bool, None, ℕ, zero, suc, ◌-◌, ◌<◌, arith, length, get_or, replicate}
+use Rattle.std.proofs.Math.Decide.{dec_le}
+use Rattle.std.proofs.Math.ListN.{length-replicate, get_or-replicate}
+use Rattle.std.proofs.Math.Logic.{by_cases}
 use Rattle.terms.specs.Graphs.{from_of, to_of}
 use Rattle.terms.specs.Plans.{not_placed, processor_of, start_of}
 use Rattle.terms.specs.ListRule.{IsOrder, begin}
@@ -15,8 +11,8 @@ use Rattle.theory.specs.Sound.{SoundGraph}
 use Rattle.theory.proofs.Stores.{read_noughts}
 use Rattle.theory.proofs.Counting.{count_same, count_none, count_some}
 use Rattle.forms.specs.Forms.{never}
-use Rattle.listplan.specs.Tables.{Roomy, ArrowsTo, Distinct, Sources, Grouped}
-use Rattle.listplan.specs.Making.{Job, waits, Holding, unended, Making, FirstOf}
+use Rattle.listplan.specs.Tables.{Roomy, ArrowsTo, Distinct, Sources}
+use Rattle.listplan.specs.Making.{IsJob, waits, Holding, unended, Making, FirstOf}
 use Rattle.listplan.proofs.Following.{Following}
 use Rattle.listplan.proofs.Scans.{none_yet, none_free}
 
@@ -40,8 +36,8 @@ all_blank zero i = refl
 all_blank (suc n) zero = refl
 all_blank (suc n) (suc i) = all_blank n i
 
-module _ {times : List ℕ} {arrows : List (List ℕ)} {order : List ℕ} {M : ℕ} {first next rank : List ℕ} (job : Job times arrows order M first next rank) where
-  pub nothing_placed : {L R : List ℕ} {P : List Entry} → ArrowsTo arrows L (length arrows) → Sources order L R (length order)
+module _ {times : List ℕ} {arrows : List (List ℕ)} {order : List ℕ} {M : ℕ} {first next rank : List ℕ} (job : IsJob times arrows order M first next rank) where
+  pub nothing_placed : {L : List ℕ} {R : List Bool} {P : List Entry} → ArrowsTo arrows L (length arrows) → Sources order L R (length order)
       → P ≡ replicate (length times) not_placed → Making times arrows order M 0 0 L R (replicate 17 never) (replicate 17 0) P
   unfolding processor_of start_of
   nothing_placed {L} {R} {P} arrive sources e = record {
@@ -87,12 +83,11 @@ module _ {times : List ℕ} {arrows : List (List ℕ)} {order : List ℕ} {M : �
       small : (y : ℕ) → y < length order → get_or order y 0 < 257
       small y l = omega (arith, (job.is_order.each y l).high, job.graph.count.high)
 
-  pub begins : {L R G : List ℕ} {P : List Entry} → Making times arrows order M 0 0 L R (replicate 17 never) (replicate 17 0) P → Grouped R G
-      → Following times arrows order M 0 0 L R G (replicate 17 never) (replicate 17 0) P None 1 0
+  pub begins : {L : List ℕ} {R : List Bool} {P : List Entry} → Making times arrows order M 0 0 L R (replicate 17 never) (replicate 17 0) P
+      → Following times arrows order M 0 0 L R (replicate 17 never) (replicate 17 0) P None 1 0
   unfolding FirstOf
-  begins mk g = record {
+  begins mk = record {
     making = mk;
-    grouped = g;
     unmarked = none_yet;
     first_due = record {
       within = omega arith;

@@ -1,11 +1,7 @@
 -- The clock moves to the soonest end; where there is none the plan is made. Assumes nothing.
-use mathlib.Core.Path.{◌≡◌, ◌∙◌}
-use mathlib.Core.Logic.{◌≢◌, by_cases}
-use mathlib.Core.List.{List}
-use Prim.Native.Nat.{ℕ, suc, ◌≤◌, ◌<◌}
-use native.Mathlib.Omega.{arith}
-use native.Mathlib.Decide.{dec_le, ℕ_discrete}
-use lib.ListN.{get_or}
+use Rattle.std.proofs.Common.{◌≡◌, ◌∙◌, ◌≢◌, List, Bool, ℕ, suc, ◌≤◌, ◌<◌, arith, get_or}
+use Rattle.std.proofs.Math.Decide.{dec_le, ℕ_discrete}
+use Rattle.std.proofs.Math.Logic.{by_cases}
 use Rattle.terms.specs.Graphs.{Among, IsSubtask}
 use Rattle.terms.specs.Paths.{total_work}
 use Rattle.terms.specs.Plans.{processor_of, end_of, Placed, IdleAt}
@@ -14,11 +10,11 @@ use Rattle.terms.specs.declared.Entry.{Entry}
 use Rattle.theory.proofs.ListRule.{by_rule, ends_early, still_early}
 use Rattle.theory.proofs.Clock.{jump}
 use Rattle.forms.specs.Forms.{never}
-use Rattle.listplan.specs.Making.{Job, Unended, waits, runs, Making, Soonest}
+use Rattle.listplan.specs.Making.{IsJob, Unended, waits, runs, Making, Soonest}
 use Rattle.listplan.proofs.Ready.{so_far, in_range, still_there}
 
-module _ {times : List ℕ} {arrows : List (List ℕ)} {order : List ℕ} {M : ℕ} {first next rank : List ℕ} (job : Job times arrows order M first next rank)
-    {t : ℕ} {L R U W : List ℕ} {P : List Entry} (mk : Making times arrows order M t 0 L R U W P)
+module _ {times : List ℕ} {arrows : List (List ℕ)} {order : List ℕ} {M : ℕ} {first next rank : List ℕ} (job : IsJob times arrows order M first next rank)
+    {t : ℕ} {L : List ℕ} {R : List Bool} {U W : List ℕ} {P : List Entry} (mk : Making times arrows order M t 0 L R U W P)
     (still : ¬ IdleAt times arrows M P t) {p e : ℕ} (soon : Soonest U M p) (at : e ≡ get_or U p 0) where
   -- what runs on ends no sooner
   no_sooner : (j : ℕ) → IsSubtask times j → Placed P j → t < end_of times P j → e ≤ end_of times P j

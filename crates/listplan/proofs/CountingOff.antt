@@ -1,11 +1,7 @@
 -- An arrow is counted off: its `to` waits for one subtask fewer, and where it waits for none it can go. Assumes nothing.
-use mathlib.Core.Path.{◌≡◌, refl, sym, ap, ◌∙◌}
-use mathlib.Core.Logic.{◌≢◌, by_cases}
-use mathlib.Core.List.{List}
-use Prim.Native.Nat.{ℕ, ◌-◌, ◌/◌, ◌≤◌, ◌<◌, min}
-use native.Mathlib.Omega.{arith}
-use native.Mathlib.Decide.{dec_le, dec_lt, ℕ_discrete}
-use lib.ListN.{length, get_or, set, length-set}
+use Rattle.std.proofs.Common.{◌≡◌, refl, sym, ap, ◌∙◌, ◌≢◌, List, Bool, true, ℕ, ◌-◌, ◌≤◌, ◌<◌, arith, length, get_or, set, length-set}
+use Rattle.std.proofs.Math.Decide.{dec_le, dec_lt, ℕ_discrete}
+use Rattle.std.proofs.Math.Logic.{by_cases}
 use Rattle.terms.specs.Graphs.{IsSubtask, from_of, to_of}
 use Rattle.terms.specs.declared.Entry.{Entry}
 use Rattle.theory.specs.First.{NoneBelow}
@@ -14,22 +10,12 @@ use Rattle.theory.proofs.Stores.{read_set}
 use Rattle.theory.proofs.Counting.{count_same, count_less, count_none, count_some}
 use Rattle.theory.proofs.ListExists.{holds}
 use Rattle.graph.specs.Chains.{Last}
-use Rattle.listplan.specs.Tables.{Grouped, MarkedIf}
-use Rattle.listplan.specs.Making.{Job, Holding, unended, uncounted, Open, Lefts, Marks, Making, IsMarked, CountedOff}
+use Rattle.listplan.specs.Making.{IsJob, Holding, unended, uncounted, Open, Lefts, Marks, Making, IsMarked, CountedOff}
+use Rattle.listplan.proofs.Bits.{read_bit}
 use Rattle.listplan.proofs.Scans.{marked_low}
 
--- as the code has it
-pub counted_off : {arrows : List (List ℕ)} {rank L R G R' G' : List ℕ} {a j x low low' : ℕ} → j ≡ to_of arrows a → x ≡ get_or rank j 0
-    → MarkedIf (get_or L j 0 - 1) R G R' G' x → (get_or L j 0 - 1 ≡ 0 → low' ≡ min low x) → (get_or L j 0 - 1 ≢ 0 → low' ≡ low)
-    → CountedOff arrows rank L R G (set L j (get_or L j 0 - 1)) R' G' a low low'
-counted_off {arrows} {rank} {L} {R} {G} {R'} {G'} {a} {j} {x} e f m lower kept =
-    let f' : x ≡ get_or rank (to_of arrows a) 0 = rw e at f in
-    let m' : MarkedIf (get_or L (to_of arrows a) 0 - 1) R G R' G' x = rw e at m in
-    let same : get_or L j 0 ≡ get_or L (to_of arrows a) 0 = ap (λ (i : ℕ). get_or L i 0) e in
-    rw e (record { fewer = refl; marked = rw f' at m'; lower = λ z. omega (arith, lower (omega arith), f'); kept = λ z. kept (omega arith) })
-
-module _ {times : List ℕ} {arrows : List (List ℕ)} {order : List ℕ} {M : ℕ} {first next rank : List ℕ} (job : Job times arrows order M first next rank)
-    {t c : ℕ} {L R U W : List ℕ} {P : List Entry} (mk : Making times arrows order M t c L R U W P) (some : c ≢ 0) where
+module _ {times : List ℕ} {arrows : List (List ℕ)} {order : List ℕ} {M : ℕ} {first next rank : List ℕ} (job : IsJob times arrows order M first next rank)
+    {t c : ℕ} {L : List ℕ} {R : List Bool} {U W : List ℕ} {P : List Entry} (mk : Making times arrows order M t c L R U W P) (some : c ≢ 0) where
   -- where the arrow goes to, and the place of that one in the order
   abbrev j : ℕ
   j = to_of arrows (c - 1)
@@ -121,13 +107,13 @@ module _ {times : List ℕ} {arrows : List (List ℕ)} {order : List ℕ} {M : �
     in_ready : x < length R
     in_ready = omega (arith, mk.marks.long, rank_small)
 
-    marks_last : get_or L j 0 ≡ 1 → Marks arrows order c' P W (set R x 1)
+    marks_last : get_or L j 0 ≡ 1 → Marks arrows order c' P W (set R x true)
     marks_last z = record {
-      long = length-set R _ 1 ∙ mk.marks.long;
-      opens = λ y l. read_set (λ k. k ≡ 1 → Open arrows P W c' (get_or order y 0)) R x 1 y in_ready
+      long = length-set R _ true ∙ mk.marks.long;
+      opens = λ y l. read_bit (λ k. k ≡ true → Open arrows P W c' (get_or order y 0)) R x true y in_ready
           (λ e _. let f : get_or order y 0 ≡ j = ap (λ (k : ℕ). get_or order k 0) e ∙ stands in rw f (open_now z))
           (λ h e. open_keep (get_or order y 0) (mk.marks.opens y l e));
-      marked = λ y l o. read_set (λ k. k ≡ 1) R x 1 y in_ready (λ _. refl)
+      marked = λ y l o. read_bit (λ k. k ≡ true) R x true y in_ready (λ _. refl)
           (λ h. mk.marks.marked y l (open_back (get_or order y 0) (λ e. h (sym (ranked y l e))) o));
     }
 
@@ -140,25 +126,17 @@ module _ {times : List ℕ} {arrows : List (List ℕ)} {order : List ℕ} {M : �
           (λ d. mk.marks.marked y l (open_back (get_or order y 0) d o));
     }
 
-    module _ {G L' R' G' : List ℕ} {low low' : ℕ} (off : CountedOff arrows rank L R G L' R' G' (c - 1) low low') (g : Grouped R G)
+    module _ {L' : List ℕ} {R' : List Bool} {low low' : ℕ} (off : CountedOff arrows rank L R L' R' (c - 1) low low')
         (u : NoneBelow (IsMarked R) (length order) low) where
-      marks : Marks arrows order c' P W R' × Grouped R' G' × NoneBelow (IsMarked R') (length order) low'
-      marks = by_cases (ℕ_discrete (get_or L j 0) 1)
-          (λ z. let r = off.marked.if_so (omega arith) in rw (r.0, r.1, off.lower (omega arith)) (marks_last z, grouped, marked_low R in_ready u))
+      now_marked : Marks arrows order c' P W R' × NoneBelow (IsMarked R') (length order) low'
+      now_marked = by_cases (ℕ_discrete (get_or L j 0) 1)
+          (λ z. let r = off.last (omega arith) in rw (r.0, r.1) (marks_last z, marked_low R in_ready u))
           (λ z.
-          let none : get_or L j 0 - 1 ≢ 0 = omega (arith, left_some) in
-          let r = off.marked.if_not none in
-          rw (r.0, r.1, off.kept none) (marks_more z, g, u))
-        where
-          grouped : Grouped (set R x 1) (set G (x / 16) 1)
-          grouped = record {
-            long = length-set G _ 1 ∙ g.long;
-            none = λ y l. read_set (λ k. k ≡ 0 → get_or (set R x 1) y 0 ≢ 1) G (x / 16) 1 (y / 16) (omega (arith, g.long, rank_small))
-                (λ _ z. absurd (omega arith))
-                (λ d z. read_set (λ k. k ≢ 1) R x 1 y in_ready (λ e. absurd (d (ap (λ (k : ℕ). k / 16) e))) (λ _. g.none y l z));
-          }
+          let some_left : get_or L j 0 - 1 ≢ 0 = omega (arith, left_some) in
+          let r = off.more some_left in
+          rw (r.0, r.1) (marks_more z, u))
 
-      pub counted : Making times arrows order M t c' L' R' U W P × Grouped R' G' × NoneBelow (IsMarked R') (length order) low'
+      pub counted : Making times arrows order M t c' L' R' U W P × NoneBelow (IsMarked R') (length order) low'
       counted = (
         record {
           whole = mk.whole;
@@ -167,10 +145,9 @@ module _ {times : List ℕ} {arrows : List (List ℕ)} {order : List ℕ} {M : �
           made = mk.made;
           holders = mk.holders;
           lefts = lefts off.fewer;
-          marks = marks.0;
+          marks = now_marked.0;
           cursor = record { within = omega (arith, last.within, mk.cursor.within); ended = λ l u. mk.cursor.ended (omega arith) (rw (last.here l) at u) };
           blocked = λ a l h. mk.blocked a l (back a h);
         },
-        marks.1,
-        marks.2,
+        now_marked.1,
       )

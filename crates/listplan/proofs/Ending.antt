@@ -1,12 +1,7 @@
 -- A subtask ends: its processor is free, and its arrows are to be counted off. Assumes nothing.
-use mathlib.Core.Path.{◌≡◌, refl, sym, ap, ◌∙◌}
-use mathlib.Core.Logic.{◌≢◌, by_cases}
-use mathlib.Core.List.{List}
-use Rattle.std.specs.Prelude.{Option}
-use Prim.Native.Nat.{ℕ, ◌+◌, ◌≤◌, ◌<◌}
-use native.Mathlib.Omega.{arith}
-use native.Mathlib.Decide.{dec_le, dec_lt, ℕ_discrete}
-use lib.ListN.{length, get_or, set, length-set}
+use Rattle.std.proofs.Common.{◌≡◌, refl, sym, ap, ◌∙◌, ◌≢◌, List, Bool, Option, ℕ, ◌+◌, ◌≤◌, ◌<◌, arith, length, get_or, set, length-set}
+use Rattle.std.proofs.Math.Decide.{dec_le, dec_lt, ℕ_discrete}
+use Rattle.std.proofs.Math.Logic.{by_cases}
 use Rattle.terms.specs.Graphs.{Among, IsSubtask, from_of}
 use Rattle.terms.specs.Plans.{processor_of, end_of}
 use Rattle.terms.specs.declared.Entry.{Entry}
@@ -16,14 +11,13 @@ use Rattle.theory.proofs.Stores.{read_set}
 use Rattle.theory.proofs.Counting.{count_same}
 use Rattle.forms.specs.Forms.{never}
 use Rattle.graph.specs.Chains.{Last}
-use Rattle.listplan.specs.Tables.{Grouped}
-use Rattle.listplan.specs.Making.{Job, Unended, waits, runs, Holding, unended, uncounted, IsOn, Making, IsMarked, IsDue, FirstOf}
+use Rattle.listplan.specs.Making.{IsJob, Unended, waits, runs, Holding, unended, uncounted, IsOn, Making, IsMarked, IsDue, FirstOf}
 use Rattle.listplan.proofs.Following.{Following}
 use Rattle.listplan.proofs.Scans.{none_free}
 
 -- the one on processor p has its end by t
-module _ {times : List ℕ} {arrows : List (List ℕ)} {order : List ℕ} {M : ℕ} {first next rank : List ℕ} (job : Job times arrows order M first next rank)
-    {t : ℕ} {L R U W : List ℕ} {P : List Entry} (mk : Making times arrows order M t 0 L R U W P) {p : ℕ} (pm : Among 1 M p) (due : get_or U p 0 ≤ t) where
+module _ {times : List ℕ} {arrows : List (List ℕ)} {order : List ℕ} {M : ℕ} {first next rank : List ℕ} (job : IsJob times arrows order M first next rank)
+    {t : ℕ} {L : List ℕ} {R : List Bool} {U W : List ℕ} {P : List Entry} (mk : Making times arrows order M t 0 L R U W P) {p : ℕ} (pm : Among 1 M p) (due : get_or U p 0 ≤ t) where
   pub somebody : 1 ≤ get_or W p 0
   somebody = by_cases (dec_le 1 (get_or W p 0)) (λ l. l) (λ l. absurd (omega (arith, mk.holders.nobody p pm (omega arith), mk.early, job.work)))
 
@@ -127,6 +121,6 @@ module _ {times : List ℕ} {arrows : List (List ℕ)} {order : List ℕ} {M : �
       blocked = λ a l h. mk.blocked a l (back a l h);
     }
 
-    pub ended : {G : List ℕ} {due' : Option Processor} {low : ℕ} → Grouped R G → NoneBelow (IsMarked R) (length order) low → FirstOf M (IsDue U' t) due'
-        → Following times arrows order M t c L R G U' W' P due' 1 low
-    ended g u d = record { making = making; grouped = g; unmarked = u; first_due = d; free_one = omega arith; busy = none_free (omega arith) }
+    pub ended : {due' : Option Processor} {low : ℕ} → NoneBelow (IsMarked R) (length order) low → FirstOf M (IsDue U' t) due'
+        → Following times arrows order M t c L R U' W' P due' 1 low
+    ended u d = record { making = making; unmarked = u; first_due = d; free_one = omega arith; busy = none_free (omega arith) }

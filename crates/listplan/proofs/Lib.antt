@@ -1,3 +1,4 @@
+pub mod Bits
 pub mod Scans
 pub mod OrderTest
 pub mod ChainedArrows

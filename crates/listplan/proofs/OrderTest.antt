@@ -1,24 +1,11 @@
 -- A row of marks for the subtasks that an order has named so far: it tells whether one stands twice. Assumes nothing.
-use Rattle.std.proofs.Common.{◌≡◌, ◌≢◌, refl, sym, ap, subst, ◌∙◌, List, ℕ, zero, suc, ◌+◌, ◌≤◌, ◌<◌, Bool, true, false, length, get_or, set, replicate, length-set, arith}
-use Rattle.std.proofs.Math.Logic.{by_cases}
+use Rattle.std.proofs.Common.{◌≡◌, ◌≢◌, refl, sym, ap, ◌∙◌, List, ℕ, ◌+◌, ◌≤◌, ◌<◌, Bool, true, false, length, get_or, set, replicate, length-set, arith}
 use Rattle.std.proofs.Math.Decide.{ℕ_discrete}
-use lib.ListN.{length-replicate}
-use lib.Seq.{get_or-set_same, get_or-set_other}
+use Rattle.std.proofs.Math.ListN.{length-replicate}
+use Rattle.std.proofs.Math.Logic.{by_cases}
 use Rattle.terms.specs.Graphs.{IsSubtask}
 use Rattle.terms.specs.ListRule.{IsOrder}
-
--- what is read from a row of marks after one more
-read_mark : (Q : Bool → Type 0) (l : List Bool) (i x : ℕ) → i < length l → (x ≡ i → Q true) → (¬ (x ≡ i) → Q (get_or l x false)) → Q (get_or (set l i true) x false)
-read_mark Q l i x h here there = go (ℕ_discrete x i)
-  where
-    go : Dec (x ≡ i) → Q (get_or (set l i true) x false)
-    go (yes e) = subst Q (sym (ap (λ (y : ℕ). get_or (set l i true) y false) e ∙ get_or-set_same l i true false h)) (here e)
-    go (no n) = subst Q (sym (get_or-set_other l i x true false n)) (there n)
-
-all_unmarked : (n i : ℕ) → get_or (replicate n false) i false ≡ false
-all_unmarked zero i = refl
-all_unmarked (suc n) zero = refl
-all_unmarked (suc n) (suc i) = all_unmarked n i
+use Rattle.listplan.proofs.Bits.{read_bit, all_unmarked}
 
 -- the first x of the order are subtasks, each once, and just these are marked
 pub record Named (times order : List ℕ) (seen : List Bool) (x : ℕ) : Type 0 where
@@ -66,9 +53,9 @@ module _ {times order : List ℕ} {seen : List Bool} {x j : ℕ} (here : NextNam
     once = λ y z m n c. by_cases (ℕ_discrete z x)
         (λ d. new (rw (c ∙ same z d) at (h.marked y (omega arith))))
         (λ d. h.once y z m (omega arith) c);
-    marked = λ y m. read_mark (λ k. k ≡ true) seen j (get_or order y 0) room (λ _. refl)
+    marked = λ y m. read_bit (λ k. k ≡ true) seen j true (get_or order y 0) room (λ _. refl)
         (λ c. by_cases (ℕ_discrete y x) (λ d. absurd (c (same y d))) (λ d. h.marked y (omega arith)));
-    known = λ k. read_mark (λ z. z ≡ true → (y : ℕ) × (y < x + 1) × (get_or order y 0 ≡ k)) seen j k room
+    known = λ k. read_bit (λ z. z ≡ true → (y : ℕ) × (y < x + 1) × (get_or order y 0 ≡ k)) seen j true k room
         (λ c _. (x, omega arith, sym (c ∙ e)))
         (λ c d. let r = h.known k d in (r.0, omega (arith, r.1), r.2));
   }

@@ -1,26 +1,21 @@
 -- The tables say who is ready and which processor is free. Assumes nothing.
-use mathlib.Core.Path.{◌≡◌, refl}
-use mathlib.Core.Logic.{◌⊎◌, inl, inr, by_cases}
-use mathlib.Core.List.{List}
-use Rattle.std.specs.Prelude.{None}
-use Prim.Native.Nat.{ℕ, ◌≤◌, ◌<◌}
-use native.Mathlib.Omega.{arith}
-use native.Mathlib.Decide.{dec_le}
-use lib.ListN.{length, get_or}
+use Rattle.std.proofs.Common.{◌≡◌, refl, ◌⊎◌, inl, inr, List, Bool, None, ℕ, ◌≤◌, ◌<◌, arith, length, get_or}
+use Rattle.std.proofs.Math.Decide.{dec_le}
+use Rattle.std.proofs.Math.Logic.{by_cases}
 use Rattle.terms.specs.Graphs.{Among, IsSubtask, from_of, to_of}
 use Rattle.terms.specs.Plans.{processor_of, start_of, end_of, Placed, ReadyAt, FreeAt, IdleAt}
 use Rattle.terms.specs.declared.Entry.{Entry}
 use Rattle.theory.proofs.Accepted.{from_subtask}
 use Rattle.theory.proofs.ListRule.{SoFar, by_rule}
 use Rattle.theory.proofs.ListExists.{holds}
-use Rattle.listplan.specs.Making.{Job, Unended, waits, runs, Holding, unended, uncounted, Open, Making, IsFree, FirstMark, FirstOf}
+use Rattle.listplan.specs.Making.{IsJob, Unended, waits, runs, Holding, unended, uncounted, Open, Making, IsFree, FirstMark, FirstOf}
 
 -- what has ended has gone
 ended_placed : (P : List Entry) (W : List ℕ) (j : ℕ) → ¬ Unended P W j → 1 ≤ processor_of P j
 ended_placed P W j h = by_cases (dec_le 1 (processor_of P j)) (λ l. l) (λ l. absurd (h (waits (omega arith))))
 
-module _ {times : List ℕ} {arrows : List (List ℕ)} {order : List ℕ} {M : ℕ} {first next rank : List ℕ} (job : Job times arrows order M first next rank)
-    {t c : ℕ} {L R U W : List ℕ} {P : List Entry} (mk : Making times arrows order M t c L R U W P) where
+module _ {times : List ℕ} {arrows : List (List ℕ)} {order : List ℕ} {M : ℕ} {first next rank : List ℕ} (job : IsJob times arrows order M first next rank)
+    {t c : ℕ} {L : List ℕ} {R : List Bool} {U W : List ℕ} {P : List Entry} (mk : Making times arrows order M t c L R U W P) where
   pub so_far : SoFar times arrows M t P
   so_far = by_rule times arrows M job.graph order job.is_order mk.made
 

@@ -1,17 +1,15 @@
 -- The scans over the processors and over the places of the order, turn by turn. Assumes nothing.
-use mathlib.Core.Path.{◌≡◌, ◌∙◌}
-use mathlib.Core.Logic.{◌≢◌, by_cases}
-use mathlib.Core.List.{List}
-use Prim.Native.Nat.{ℕ, ◌+◌, ◌*◌, ◌/◌, ◌≤◌, ◌<◌, min}
-use native.Mathlib.Omega.{arith}
-use native.Mathlib.Decide.{dec_le, ℕ_discrete}
-use lib.ListN.{length, get_or, set, length-set}
-use borrow.Author.Count.{below_more}
+use Rattle.std.proofs.Common.{◌≡◌, ◌≢◌, refl, ap, ◌∙◌, List, Bool, true, false, None, Some, ℕ, ◌+◌, ◌-◌, ◌*◌, ◌/◌, ◌≤◌, ◌<◌, min, length, get_or, set, take, drop, length-set, length-take, length-drop, arith, below_more}
+use Rattle.std.proofs.Math.Decide.{dec_le, ℕ_discrete}
+use Rattle.std.proofs.Math.Logic.{by_cases}
+use Rattle.std.specs.List.{list_any}
+use Rattle.std.proofs.lemmas.List.{get_or-take, get_or-drop}
+use Rattle.std.proofs.lemmas.List.Folds.{list_any_at}
 use Rattle.terms.specs.Graphs.{Among}
 use Rattle.theory.specs.First.{NoneBelow, FirstBelow}
-use Rattle.theory.proofs.Stores.{read_set}
 use Rattle.listplan.specs.Tables.{Grouped}
-use Rattle.listplan.specs.Making.{IsMarked, IsFree, IsDue, Soonest}
+use Rattle.listplan.specs.Making.{IsMarked, IsFree, IsDue, Soonest, FirstMark}
+use Rattle.listplan.proofs.Bits.{read_bit, none_true}
 
 -- ---- whatever is looked for
 
@@ -23,9 +21,6 @@ none_more {IsSo} {n} {x} h l d = record { within = omega arith; none = below_mor
 
 pub found : {IsSo : ℕ → Type 0} {n x : ℕ} → NoneBelow IsSo n x → IsSo x → FirstBelow IsSo n x
 found h e = record { before = h; here = λ _. e }
-
-pub none_found : {IsSo : ℕ → Type 0} {n x : ℕ} → NoneBelow IsSo n x → n ≤ x → FirstBelow IsSo n x
-none_found h l = record { before = h; here = λ m. absurd (omega arith) }
 
 -- ---- the processors
 
@@ -72,79 +67,82 @@ module _ {U : List ℕ} {k p : ℕ} (h : Soonest U k p) where
 -- ---- the places of the order
 
 -- none of the first x is marked; x may have passed n
-pub record Unmarked (R : List ℕ) (x : ℕ) : Type 0 where
-  pub none : (y : ℕ) → y < x → y < 256 → get_or R y 0 ≢ 1
+pub record Unmarked (R : List Bool) (x : ℕ) : Type 0 where
+  pub none : (y : ℕ) → y < x → y < 256 → get_or R y false ≢ true
 
-pub unmarked_below : {R : List ℕ} {n low : ℕ} → NoneBelow (IsMarked R) n low → Unmarked R low
+pub unmarked_below : {R : List Bool} {n low : ℕ} → NoneBelow (IsMarked R) n low → Unmarked R low
 unmarked_below h = record { none = λ y l _. h.none y l }
 
-pub unmarked_more : {R : List ℕ} {x : ℕ} → Unmarked R x → get_or R x 0 ≢ 1 → Unmarked R (x + 1)
+pub unmarked_more : {R : List Bool} {x : ℕ} → Unmarked R x → get_or R x false ≢ true → Unmarked R (x + 1)
 unmarked_more {R} {x} h d = record { none = λ y l m. by_cases (ℕ_discrete y x) (λ e. rw e d) (λ e. h.none y (omega arith) m) }
 
-pub unmarked_group : {R G : List ℕ} {x : ℕ} → Grouped R G → Unmarked R x → get_or G (x / 16) 0 ≡ 0 → Unmarked R (x / 16 * 16 + 16)
+pub unmarked_group : {R G : List Bool} {x : ℕ} → Grouped R G → Unmarked R x → get_or G (x / 16) false ≡ false → Unmarked R (x / 16 * 16 + 16)
 unmarked_group {R} {G} {x} g h z = record {
   none = λ y l m. by_cases (dec_le x y)
       (λ b. let e : y / 16 ≡ x / 16 = omega arith in g.none y m (rw e z))
       (λ b. h.none y (omega arith) m);
 }
 
-pub marked_here : {R : List ℕ} {n x : ℕ} → n ≤ 256 → x < n → Unmarked R x → get_or R x 0 ≡ 1 → FirstBelow (IsMarked R) n x
-marked_here b l h e = record { before = record { within = omega arith; none = λ y m. h.none y m (omega arith) }; here = λ _. e }
+pub marked_here : {R : List Bool} {n x : ℕ} → n ≤ 256 → x < n → Unmarked R x → get_or R x false ≡ true → FirstMark R n (Some x)
+unfolding FirstMark
+marked_here b l h e = (l, record { before = record { within = omega arith; none = λ y m. h.none y m (omega arith) }; here = λ _. e })
 
-pub none_marked : {R : List ℕ} {n x : ℕ} → n ≤ 256 → n ≤ x → Unmarked R x → FirstBelow (IsMarked R) n n
-none_marked b l h = record { before = record { within = omega arith; none = λ y m. h.none y (omega arith) (omega arith) }; here = λ m. absurd (omega arith) }
+pub none_marked : {R : List Bool} {n x : ℕ} → n ≤ 256 → n ≤ x → Unmarked R x → FirstMark R n None
+unfolding FirstMark
+none_marked b l h = record { within = omega arith; none = λ y m. h.none y (omega arith) (omega arith) }
 
 -- place x is marked
-pub marked_low : (R : List ℕ) {n low x : ℕ} → x < length R → NoneBelow (IsMarked R) n low → NoneBelow (IsMarked (set R x 1)) n (min low x)
+pub marked_low : (R : List Bool) {n low x : ℕ} → x < length R → NoneBelow (IsMarked R) n low → NoneBelow (IsMarked (set R x true)) n (min low x)
 marked_low R {n} {low} {x} l h = record {
   within = omega (arith, h.within);
-  none = λ y m. read_set (λ k. k ≢ 1) R x 1 y l (λ e. absurd (omega arith)) (λ _. h.none y (omega arith));
+  none = λ y m. read_bit (λ k. k ≢ true) R x true y l (λ e. absurd (omega arith)) (λ _. h.none y (omega arith));
 }
 
 -- the mark of the first place that has one was taken off
-pub unmarked_low : (R : List ℕ) {n x : ℕ} → x < length R → x < n → NoneBelow (IsMarked R) n x → NoneBelow (IsMarked (set R x 0)) n (x + 1)
+pub unmarked_low : (R : List Bool) {n x : ℕ} → x < length R → x < n → NoneBelow (IsMarked R) n x → NoneBelow (IsMarked (set R x false)) n (x + 1)
 unmarked_low R {n} {x} l b h = record {
   within = omega arith;
-  none = λ y m. read_set (λ k. k ≢ 1) R x 0 y l (λ _ f. omega arith) (λ d. h.none y (omega arith));
+  none = λ y m. read_bit (λ k. k ≢ true) R x false y l (λ _. none_true refl) (λ d. h.none y (omega arith));
 }
 
--- a mark was taken off place x; up to y of its group there is no other after it
-pub record NoOther (R : List ℕ) (x y : ℕ) : Type 0 where
-  pub low : x < y
-  pub high : y ≤ x / 16 * 16 + 16
-  pub none : (z : ℕ) → x < z → z < y → get_or R z 0 ≢ 1
+-- ---- the groups
 
-pub no_other : (R : List ℕ) (x : ℕ) → NoOther R x (x + 1)
-no_other R x = record { low = omega arith; high = omega arith; none = λ z a b. absurd (omega arith) }
-
-pub no_other_more : {R : List ℕ} {x y : ℕ} → NoOther R x y → y < x / 16 * 16 + 16 → get_or R y 0 ≢ 1 → NoOther R x (y + 1)
-no_other_more {R} {x} {y} u m d = record {
-  low = omega (arith, u.low);
-  high = omega arith;
-  none = λ z a b. by_cases (ℕ_discrete z y) (λ q. rw q d) (λ q. u.none z a (omega arith));
-}
-
-module _ {R G : List ℕ} {x : ℕ} (l : x < 256) (e : length R ≡ 256) (g : Grouped R G) where
+module _ {R G : List Bool} {x : ℕ} (l : x < 256) (e : length R ≡ 256) (g : Grouped R G) where
   room : x < length R
   room = omega arith
 
+  pub grouped_marked : Grouped (set R x true) (set G (x / 16) true)
+  grouped_marked = record {
+    long = length-set G (x / 16) true ∙ g.long;
+    none = λ y b. read_bit (λ k. k ≡ false → get_or (set R x true) y false ≢ true) G (x / 16) true (y / 16) (omega (arith, g.long))
+        (λ _ z. absurd (none_true z refl))
+        (λ d z. read_bit (λ k. k ≢ true) R x true y room (λ q. absurd (d (ap (λ (k : ℕ). k / 16) q))) (λ _. g.none y b z));
+  }
+
   -- no mark is new
-  fewer : (z : ℕ) → get_or R z 0 ≢ 1 → get_or (set R x 0) z 0 ≢ 1
-  fewer z h = read_set (λ k. k ≢ 1) R x 0 z room (λ _ f. omega arith) (λ _. h)
+  fewer : (z : ℕ) → get_or R z false ≢ true → get_or (set R x false) z false ≢ true
+  fewer z h = read_bit (λ k. k ≢ true) R x false z room (λ _. none_true refl) (λ _. h)
 
   -- the group may have another
-  pub grouped_still : Grouped (set R x 0) G
+  pub grouped_still : Grouped (set R x false) G
   grouped_still = record { long = g.long; none = λ z m q. fewer z (g.none z m q) }
 
   -- it has none
-  pub grouped_last : {y : ℕ} → NoneBelow (IsMarked R) 256 x → NoOther (set R x 0) x y → x / 16 * 16 + 16 ≤ y → Grouped (set R x 0) (set G (x / 16) 0)
-  grouped_last before u m = record {
-    long = length-set G (x / 16) 0 ∙ g.long;
-    none = λ z b. read_set (λ k. k ≡ 0 → get_or (set R x 0) z 0 ≢ 1) G (x / 16) 0 (z / 16) (omega (arith, g.long))
-        (λ q _. inside z q) (λ q f. fewer z (g.none z b f));
+  pub grouped_last : ((z : ℕ) → z / 16 ≡ x / 16 → get_or (set R x false) z false ≢ true) → Grouped (set R x false) (set G (x / 16) false)
+  grouped_last none = record {
+    long = length-set G (x / 16) false ∙ g.long;
+    none = λ z b. read_bit (λ k. k ≡ false → get_or (set R x false) z false ≢ true) G (x / 16) false (z / 16) (omega (arith, g.long))
+        (λ q _. none z q) (λ q f. fewer z (g.none z b f));
   }
-    where
-      inside : (z : ℕ) → z / 16 ≡ x / 16 → get_or (set R x 0) z 0 ≢ 1
-      inside z q = by_cases (dec_le (x + 1) z)
-          (λ a. u.none z (omega arith) (omega arith))
-          (λ a. read_set (λ k. k ≢ 1) R x 0 z room (λ _ f. omega arith) (λ d. before.none z (omega arith)))
+
+-- a piece of sixteen places in which none is marked
+pub no_mark : (p : Bool → Bool) → p true ≡ true → (R : List Bool) (g n : ℕ) → n ≡ 16 → g * 16 + 16 ≤ length R → list_any p (take n (drop (g * 16) R)) ≡ false
+    → (z : ℕ) → z / 16 ≡ g → get_or R z false ≢ true
+no_mark p sees R g n e l none z q marked =
+    let i : ℕ = z - g * 16 in
+    let at : g * 16 + i ≡ z = omega arith in
+    let inside : i < n = omega arith in
+    let long : i < length (take n (drop (g * 16) R)) = simp (length-take, length-drop) (omega arith) in
+    let here : get_or (take n (drop (g * 16) R)) i false ≡ true =
+    get_or-take n (drop (g * 16) R) i false inside ∙ get_or-drop (g * 16) R i false ∙ ap (λ (y : ℕ). get_or R y false) at ∙ marked in
+    none_true none (list_any_at p (take n (drop (g * 16) R)) i false long (ap p here ∙ sees))

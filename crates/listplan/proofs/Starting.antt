@@ -1,12 +1,7 @@
 -- A subtask starts: the step of the list rule, and the tables after it. Assumes nothing.
-use mathlib.Core.Path.{◌≡◌, refl, sym, ap, ◌∙◌}
-use mathlib.Core.Logic.{◌≢◌, by_cases}
-use mathlib.Core.List.{List}
-use Rattle.std.specs.Prelude.{Option, None}
-use Prim.Native.Nat.{ℕ, ◌+◌, ◌≤◌, ◌<◌}
-use native.Mathlib.Omega.{arith}
-use native.Mathlib.Decide.{dec_lt, ℕ_discrete}
-use lib.ListN.{length, get_or, set, length-set}
+use Rattle.std.proofs.Common.{◌≡◌, refl, sym, ap, ◌∙◌, ◌≢◌, List, Bool, true, false, Option, None, ℕ, ◌+◌, ◌≤◌, ◌<◌, arith, length, get_or, set, length-set}
+use Rattle.std.proofs.Math.Decide.{dec_lt, ℕ_discrete}
+use Rattle.std.proofs.Math.Logic.{by_cases}
 use Rattle.terms.specs.Graphs.{Among, IsSubtask, time_of, from_of, to_of}
 use Rattle.terms.specs.Plans.{processor_of, start_of, end_of}
 use Rattle.terms.specs.ListRule.{put, Goes, ByRule, goes}
@@ -17,15 +12,15 @@ use Rattle.theory.proofs.Stores.{read_set}
 use Rattle.theory.proofs.Counting.{count_same}
 use Rattle.theory.proofs.Placing.{put_length, put_processor, put_start, keep_processor, keep_start}
 use Rattle.forms.specs.Forms.{never}
-use Rattle.listplan.specs.Tables.{Grouped}
-use Rattle.listplan.specs.Making.{Job, Unended, waits, runs, Holding, unended, uncounted, Open, IsOn, Holders, Lefts, Marks, Making, IsMarked, IsFree, FirstOf}
+use Rattle.listplan.specs.Making.{IsJob, Unended, waits, runs, Holding, unended, uncounted, Open, IsOn, Holders, Lefts, Marks, Making, IsMarked, IsFree, FirstOf}
+use Rattle.listplan.proofs.Bits.{read_bit, none_true}
 use Rattle.listplan.proofs.Following.{Following}
 use Rattle.listplan.proofs.Scans.{unmarked_low}
 use Rattle.listplan.proofs.Ready.{open_ready, is_free, is_busy, ready_open}
 
 -- subtask j, at place x of the order, starts on processor p
-module _ {times : List ℕ} {arrows : List (List ℕ)} {order : List ℕ} {M : ℕ} {first next rank : List ℕ} (job : Job times arrows order M first next rank)
-    {t : ℕ} {L R U W : List ℕ} {P : List Entry} (mk : Making times arrows order M t 0 L R U W P) (later : (p : ℕ) → Among 1 M p → t < get_or U p 0)
+module _ {times : List ℕ} {arrows : List (List ℕ)} {order : List ℕ} {M : ℕ} {first next rank : List ℕ} (job : IsJob times arrows order M first next rank)
+    {t : ℕ} {L : List ℕ} {R : List Bool} {U W : List ℕ} {P : List Entry} (mk : Making times arrows order M t 0 L R U W P) (later : (p : ℕ) → Among 1 M p → t < get_or U p 0)
     {x p j : ℕ} (fm : FirstBelow (IsMarked R) (length order) x) (ff : FirstBelow (IsFree W) (M + 1) p) (inside : x < length order) (pm : Among 1 M p)
     (stands : j ≡ get_or order x 0) where
   s : IsSubtask times j
@@ -46,8 +41,8 @@ module _ {times : List ℕ} {arrows : List (List ℕ)} {order : List ℕ} {M : �
   abbrev W' : List ℕ
   W' = set W p j
 
-  abbrev R' : List ℕ
-  R' = set R x 0
+  abbrev R' : List Bool
+  R' = set R x false
 
   in_until : p < length U
   in_until = omega (arith, mk.holders.long_until, pm.high, job.within.high)
@@ -173,20 +168,20 @@ module _ {times : List ℕ} {arrows : List (List ℕ)} {order : List ℕ} {M : �
 
   marks : Marks arrows order 0 P' W' R'
   marks = record {
-    long = length-set R x 0 ∙ mk.marks.long;
-    opens = λ y l. read_set (λ z. z ≡ 1 → Open arrows P' W' 0 (get_or order y 0)) R x 0 y in_ready
-        (λ _ e. absurd (omega arith))
+    long = length-set R x false ∙ mk.marks.long;
+    opens = λ y l. read_bit (λ z. z ≡ true → Open arrows P' W' 0 (get_or order y 0)) R x false y in_ready
+        (λ _ e. absurd (none_true refl e))
         (λ h e. open_keep (get_or order y 0) (job.is_order.each y l) (other y l h) (mk.marks.opens y l e));
-    marked = λ y l o. read_set (λ z. z ≡ 1) R x 0 y in_ready
+    marked = λ y l o. read_bit (λ z. z ≡ true) R x false y in_ready
         (λ e.
         let z : processor_of P' (get_or order y 0) ≡ processor_of P' j = ap (processor_of P') (ap (λ (k : ℕ). get_or order k 0) e ∙ sym stands) in
         absurd (omega (arith, o.unplaced, processor_new, pm.low)))
         (λ h. mk.marks.marked y l (open_back (get_or order y 0) (job.is_order.each y l) (other y l h) o));
   }
 
-  pub started : {G : List ℕ} {due : Option Processor} → Grouped R' G → due ≡ None → Following times arrows order M t 0 L R' G U' W' P' due p (x + 1)
+  pub started : {due : Option Processor} → due ≡ None → Following times arrows order M t 0 L R' U' W' P' due p (x + 1)
   unfolding FirstOf
-  started g none = record {
+  started none = record {
     making = record {
       whole = put_length P j p t ∙ mk.whole;
       early = mk.early;
@@ -201,7 +196,6 @@ module _ {times : List ℕ} {arrows : List (List ℕ)} {order : List ℕ} {M : �
           let d : to_of arrows a ≢ j = λ e. opened.served a l e b in
           processor_old (to_of arrows a) (job.graph.named a l).1 d ∙ mk.blocked a l b;
     };
-    grouped = g;
     unmarked = unmarked_low R in_ready inside fm.before;
     first_due = rw none (record {
       within = omega arith;

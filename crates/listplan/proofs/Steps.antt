@@ -1,12 +1,7 @@
 -- The ways round the loop that makes the plan: each keeps what holds, and leaves less to do. Assumes nothing.
-use mathlib.Core.Path.{◌≡◌, refl, ◌∙◌}
-use mathlib.Core.Logic.{◌≢◌, ◌⊎◌, by_cases}
-use mathlib.Core.List.{List, map}
-use Rattle.std.specs.Prelude.{Option, Some, None}
-use Prim.Native.Nat.{ℕ, ◌+◌, ◌-◌, ◌*◌, ◌≤◌, ◌<◌}
-use native.Mathlib.Omega.{arith}
-use native.Mathlib.Decide.{dec_le}
-use lib.ListN.{length, get_or, set, length-set}
+use Rattle.std.proofs.Common.{◌≡◌, refl, ◌∙◌, ◌≢◌, ◌⊎◌, List, map, Bool, false, Option, Some, None, ℕ, ◌+◌, ◌-◌, ◌*◌, ◌≤◌, ◌<◌, arith, length, get_or, set, length-set}
+use Rattle.std.proofs.Math.Decide.{dec_le}
+use Rattle.std.proofs.Math.Logic.{by_cases}
 use Rattle.std.proofs.lemmas.List.{map-set, get_or-map, length-map}
 use Rattle.terms.specs.Graphs.{Among, IsSubtask, time_of, to_of}
 use Rattle.terms.specs.Paths.{total_work}
@@ -18,8 +13,7 @@ use Rattle.theory.specs.First.{NoneBelow, FirstBelow}
 use Rattle.theory.proofs.Counting.{noughts, noughts_most, noughts_filled, noughts_emptied}
 use Rattle.theory.proofs.Tallies.{tally, tally_set}
 use Rattle.forms.specs.Forms.{never}
-use Rattle.listplan.specs.Tables.{Grouped}
-use Rattle.listplan.specs.Making.{Job, Making, IsMarked, IsFree, IsDue, FirstOf, FirstMark, Soonest, CountedOff}
+use Rattle.listplan.specs.Making.{IsJob, Making, IsMarked, IsFree, IsDue, FirstOf, FirstMark, Soonest, CountedOff}
 use Rattle.listplan.proofs.Following.{Following}
 use Rattle.listplan.proofs.Scans.{soonest_due}
 use Rattle.listplan.proofs.Ready.{still}
@@ -46,9 +40,9 @@ to_do times t L W P = (total_work times - t) + 2 * unplaced P + (17 - noughts W)
 
 -- ---- the ways round
 
-module _ {times : List ℕ} {arrows : List (List ℕ)} {order : List ℕ} {M : ℕ} {first next rank : List ℕ} {t c : ℕ} {L R G U W : List ℕ} {P : List Entry}
-    {due : Option Processor} {free low : ℕ} (job : Job times arrows order M first next rank)
-    (now : Following times arrows order M t c L R G U W P due free low) where
+module _ {times : List ℕ} {arrows : List (List ℕ)} {order : List ℕ} {M : ℕ} {first next rank : List ℕ} {t c : ℕ} {L : List ℕ} {R : List Bool} {U W : List ℕ} {P : List Entry}
+    {due : Option Processor} {free low : ℕ} (job : IsJob times arrows order M first next rank)
+    (now : Following times arrows order M t c L R U W P due free low) where
   -- an arrow is counted off
   module _ (some : c ≢ 0) where
     abbrev j : ℕ
@@ -65,17 +59,16 @@ module _ {times : List ℕ} {arrows : List (List ℕ)} {order : List ℕ} {M : �
       rank_small job now.making some,
     )
 
-    pub step_counted : {c' low' : ℕ} {L' R' G' : List ℕ} → c' ≡ get_or next (c - 1) 0 → CountedOff arrows rank L R G L' R' G' (c - 1) low low'
-        → Following times arrows order M t c' L' R' G' U W P due free low' × (to_do times t L' W P < to_do times t L W P)
+    pub step_counted : {c' low' : ℕ} {L' : List ℕ} {R' : List Bool} → c' ≡ get_or next (c - 1) 0 → CountedOff arrows rank L R L' R' (c - 1) low low'
+        → Following times arrows order M t c' L' R' U W P due free low' × (to_do times t L' W P < to_do times t L W P)
     unfolding to_do
     step_counted {L' = L'} e off =
-        let r = counted job now.making some e off now.grouped now.unmarked in
+        let r = counted job now.making some e off now.unmarked in
         let sum : tally (λ x. x) L' (length times) + get_or L j 0 ≡ tally (λ x. x) L (length times) + (get_or L j 0 - 1) =
         rw off.fewer (tally_set (λ x. x) L j _ (length times) s (omega (arith, now.making.lefts.long, arrow_fits.1))) in (
           record {
             making = r.0;
-            grouped = r.1;
-            unmarked = r.2;
+            unmarked = r.1;
             first_due = now.first_due;
             free_one = now.free_one;
             busy = now.busy;
@@ -110,13 +103,13 @@ module _ {times : List ℕ} {arrows : List (List ℕ)} {order : List ℕ} {M : �
 
     pub step_ended : {c' : ℕ} {due' : Option Processor} {U' W' : List ℕ} → c' ≡ get_or first (get_or W p.0 0) 0
         → (U' ≡ set U p.0 never) × (W' ≡ set W p.0 0) → FirstOf M (IsDue U' t) due'
-        → Following times arrows order M t c' L R G U' W' P due' 1 low × (to_do times t L W' P < to_do times t L W P)
+        → Following times arrows order M t c' L R U' W' P due' 1 low × (to_do times t L W' P < to_do times t L W P)
     unfolding to_do
     step_ended {due' = due'} e tables d =
         let n = noughts_emptied W p.0 (in_who job mk on by_now) (somebody job mk on by_now) in
         let d' : FirstOf M (IsDue (set U p.0 never) t) due' = rw tables.0 at d in
         rw (tables.0, tables.1) (
-          ended job mk on by_now e now.grouped now.unmarked d',
+          ended job mk on by_now e now.unmarked d',
           omega (arith, n, noughts_most (set W p.0 0), length-set W p.0 0, mk.holders.long_who),
         )
 
@@ -155,31 +148,32 @@ module _ {times : List ℕ} {arrows : List (List ℕ)} {order : List ℕ} {M : �
           let l : x < 256 = omega (arith, inside, job.is_order.whole, job.graph.count.high) in
           (omega (arith, pm.high, job.within.high), l, record { within = omega arith; none = first_mark.before.none })
 
-      pub step_started : {j : ℕ} {R' G' : List ℕ} {P' : List Entry} {U' W' : List ℕ} → j ≡ get_or order x 0 → (R' ≡ set R x 0) × Grouped R' G'
+      pub starter : {j : ℕ} → j ≡ get_or order x 0 → IsSubtask times j
+      starter e = rw e (job.is_order.each x inside)
+
+      pub step_started : {j : ℕ} {R' : List Bool} {P' : List Entry} {U' W' : List ℕ} → j ≡ get_or order x 0 → R' ≡ set R x false
           → P' ≡ put P j p.0 t → (U' ≡ set U p.0 (t + time_of times j)) × (W' ≡ set W p.0 j)
-          → Following times arrows order M t c L R' G' U' W' P' due p.0 (x + 1) × (to_do times t L W' P' < to_do times t L W P)
+          → Following times arrows order M t c L R' U' W' P' due p.0 (x + 1) × (to_do times t L W' P' < to_do times t L W P)
       unfolding to_do
-      step_started {j} {G' = G'} e g put_there (until, who) =
-          let s : IsSubtask times j = rw e (job.is_order.each x inside) in
+      step_started {j} e unmarked put_there (until, who) =
+          let s : IsSubtask times j = starter e in
           let o = opened job mk₀ later first_mark first_free inside pm e in
           let f = nobody job mk₀ later first_mark first_free inside pm e in
           let np = unplaced_put P j p.0 t (record { low = s.low; high = omega (arith, s.high, mk₀.whole) }) o.unplaced pm.low in
           let nw = noughts_filled W p.0 j (omega (arith, mk₀.holders.long_who, job.within.high, pm.high)) f.nobody s.low in
-          let g' : Grouped (set R x 0) G' = rw g.0 at g.1 in
-          rw (g.0, put_there, until, who, none)
-          (started job mk₀ later first_mark first_free inside pm e g' over, omega (arith, np, nw, noughts_most W, mk₀.holders.long_who))
+          rw (unmarked, put_there, until, who, none)
+          (started job mk₀ later first_mark first_free inside pm e over, omega (arith, np, nw, noughts_most W, mk₀.holders.long_who))
 
     -- the clock moves, or all is over
     module _ (nothing : FirstMark R (length order) None ⊎ FirstOf M (IsFree W) None) {p : Processor} {e : ℕ} (soon : Soonest U M p.0) (end : e ≡ get_or U p.0 0) where
       quiet : ¬ IdleAt times arrows M P t
       quiet = still job mk₀ later refl nothing
 
-      pub step_moved : e ≢ never → Following times arrows order M e c L R G U W P (Some p) free low × (to_do times e L W P < to_do times t L W P)
+      pub step_moved : e ≢ never → Following times arrows order M e c L R U W P (Some p) free low × (to_do times e L W P < to_do times t L W P)
       unfolding to_do FirstOf
       step_moved d = rw none (
         record {
           making = moved job mk₀ quiet soon end later d;
-          grouped = now.grouped;
           unmarked = now.unmarked;
           first_due = (soon.within, rw end (soonest_due soon));
           free_one = now.free_one;

@@ -1,7 +1,7 @@
 -- A list plan in the making, as its tables have it: `until` and `who` hold the end and the number of the subtask on each processor, `never` and
 -- 0 where nobody is on it (place 0 is not used); `left` how many arrows hold each subtask back; `ready` a mark for each place of the order whose
 -- subtask can go.
-use Rattle.std.specs.Prelude.{◌≡◌, ◌≢◌, ◌⊎◌, List, Option, Some, None, ℕ, ◌+◌, ◌-◌, ◌≤◌, ◌<◌, min, length, get_or, set}
+use Rattle.std.specs.Prelude.{◌≡◌, ◌≢◌, ◌⊎◌, List, Bool, true, false, Option, Some, None, ℕ, ◌+◌, ◌-◌, ◌≤◌, ◌<◌, min, length, get_or, set}
 use Rattle.terms.specs.Graphs.{Among, IsSubtask, from_of, to_of}
 use Rattle.terms.specs.Paths.{total_work}
 use Rattle.terms.specs.Plans.{processor_of, start_of, end_of}
@@ -13,11 +13,11 @@ use Rattle.theory.specs.First.{NoneBelow, FirstBelow}
 use Rattle.theory.specs.Counting.{Count}
 use Rattle.forms.specs.Forms.{never}
 use Rattle.graph.specs.Chains.{Chains}
-use Rattle.listplan.specs.Tables.{Ranks, MarkedIf}
-use Rattle.listplan.specs.declared.scan.Start.{Start}
+use Rattle.listplan.specs.Tables.{Ranks}
+use Rattle.listplan.specs.declared.starts.Start.{Start}
 
 -- what stays the same
-pub record Job (times : List ℕ) (arrows : List (List ℕ)) (order : List ℕ) (M : ℕ) (first next rank : List ℕ) : Type 0 where
+pub record IsJob (times : List ℕ) (arrows : List (List ℕ)) (order : List ℕ) (M : ℕ) (first next rank : List ℕ) : Type 0 where
   pub graph : SoundGraph times arrows
   pub within : Among 1 16 M
   pub is_order : IsOrder times order
@@ -61,10 +61,10 @@ pub record Lefts (times : List ℕ) (arrows : List (List ℕ)) (c : ℕ) (plan :
   pub count : (s : ℕ) → IsSubtask times s → Count (λ a. (to_of arrows a ≡ s) × Holding arrows plan who c a) (length arrows) (get_or left s 0)
 
 -- the places of the order whose subtask is open
-pub record Marks (arrows : List (List ℕ)) (order : List ℕ) (c : ℕ) (plan : List Entry) (who ready : List ℕ) : Type 0 where
+pub record Marks (arrows : List (List ℕ)) (order : List ℕ) (c : ℕ) (plan : List Entry) (who : List ℕ) (ready : List Bool) : Type 0 where
   pub long : length ready ≡ 256
-  pub opens : (x : ℕ) → x < length order → get_or ready x 0 ≡ 1 → Open arrows plan who c (get_or order x 0)
-  pub marked : (x : ℕ) → x < length order → Open arrows plan who c (get_or order x 0) → get_or ready x 0 ≡ 1
+  pub opens : (x : ℕ) → x < length order → get_or ready x false ≡ true → Open arrows plan who c (get_or order x 0)
+  pub marked : (x : ℕ) → x < length order → Open arrows plan who c (get_or order x 0) → get_or ready x false ≡ true
 
 -- the arrows that are being counted off come from a subtask that has ended
 pub record Cursor (arrows : List (List ℕ)) (c : ℕ) (plan : List Entry) (who : List ℕ) : Type 0 where
@@ -72,7 +72,7 @@ pub record Cursor (arrows : List (List ℕ)) (c : ℕ) (plan : List Entry) (who 
   pub ended : 0 < c → ¬ Unended plan who (from_of arrows (c - 1))
 
 -- what the rule has made with the clock at t, and the tables say so
-pub record Making (times : List ℕ) (arrows : List (List ℕ)) (order : List ℕ) (M t c : ℕ) (left ready until who : List ℕ) (plan : List Entry) : Type 0 where
+pub record Making (times : List ℕ) (arrows : List (List ℕ)) (order : List ℕ) (M t c : ℕ) (left : List ℕ) (ready : List Bool) (until who : List ℕ) (plan : List Entry) : Type 0 where
   pub whole : length plan ≡ length times
   pub early : t ≤ total_work times
   pub begun : (j : ℕ) → IsSubtask times j → start_of plan j ≤ t
@@ -86,8 +86,8 @@ pub record Making (times : List ℕ) (arrows : List (List ℕ)) (order : List �
 -- ---- what the scans look for
 
 -- place x of the order is marked
-abbrev pub IsMarked : List ℕ → ℕ → Type 0
-IsMarked ready x = get_or ready x 0 ≡ 1
+abbrev pub IsMarked : List Bool → ℕ → Type 0
+IsMarked ready x = get_or ready x false ≡ true
 
 -- nobody is on processor p
 pub record IsFree (who : List ℕ) (p : ℕ) : Type 0 where
@@ -105,12 +105,12 @@ FirstOf M IsSo (Some p) = Among 1 M p.0 × FirstBelow IsSo (M + 1) p.0
 FirstOf M IsSo None = NoneBelow IsSo (M + 1) (M + 1)
 
 -- the first place of the order that is marked, if there is one
-unfoldable pub FirstMark : List ℕ → ℕ → Option ℕ → Type 0
+unfoldable pub FirstMark : List Bool → ℕ → Option ℕ → Type 0
 FirstMark ready n (Some x) = (x < n) × FirstBelow (IsMarked ready) n x
 FirstMark ready n None = NoneBelow (IsMarked ready) n n
 
 -- the first place that is marked with the first processor that is free, if there are both
-unfoldable pub NextStart : List ℕ → ℕ → List ℕ → ℕ → Option Start → Type 0
+unfoldable pub NextStart : List Bool → ℕ → List ℕ → ℕ → Option Start → Type 0
 NextStart ready n who M (Some start) = FirstMark ready n (Some start.place) × FirstOf M (IsFree who) (Some start.processor)
 NextStart ready n who M None = FirstMark ready n None ⊎ FirstOf M (IsFree who) None
 
@@ -122,8 +122,8 @@ pub record Soonest (until : List ℕ) (M p : ℕ) : Type 0 where
 
 -- The arrow at place a is counted off: one fewer holds its `to` back, and where it was the last one, the place of `to` in the order is marked.
 -- low' is the smaller of low and the place that was marked.
-pub record CountedOff (arrows : List (List ℕ)) (rank left ready groups left' ready' groups' : List ℕ) (a low low' : ℕ) : Type 0 where
+pub record CountedOff (arrows : List (List ℕ)) (rank left : List ℕ) (ready : List Bool) (left' : List ℕ) (ready' : List Bool) (a low low' : ℕ) : Type 0 where
   pub fewer : left' ≡ set left (to_of arrows a) (get_or left (to_of arrows a) 0 - 1)
-  pub marked : MarkedIf (get_or left (to_of arrows a) 0 - 1) ready groups ready' groups' (get_or rank (to_of arrows a) 0)
-  pub lower : get_or left (to_of arrows a) 0 - 1 ≡ 0 → low' ≡ min low (get_or rank (to_of arrows a) 0)
-  pub kept : get_or left (to_of arrows a) 0 - 1 ≢ 0 → low' ≡ low
+  pub last : get_or left (to_of arrows a) 0 - 1 ≡ 0
+      → (ready' ≡ set ready (get_or rank (to_of arrows a) 0) true) × (low' ≡ min low (get_or rank (to_of arrows a) 0))
+  pub more : get_or left (to_of arrows a) 0 - 1 ≢ 0 → (ready' ≡ ready) × (low' ≡ low)

@@ -1,5 +1,5 @@
 -- The tables that are made once for a list plan, beside the chains: how many arrows go to each subtask, and where each stands in the order.
-use Rattle.std.specs.Prelude.{◌≡◌, ◌≢◌, List, ℕ, ◌/◌, ◌≤◌, ◌<◌, length, get_or, set}
+use Rattle.std.specs.Prelude.{◌≡◌, ◌≢◌, List, Bool, true, false, ℕ, ◌/◌, ◌≤◌, ◌<◌, length, get_or}
 use Rattle.terms.specs.Graphs.{from_of, to_of}
 use Rattle.theory.specs.Counting.{Count}
 
@@ -25,22 +25,17 @@ pub record Ranks (order rank : List ℕ) (b : ℕ) : Type 0 where
   pub long : length rank ≡ 257
   pub stands : (x : ℕ) → x < b → get_or rank (get_or order x 0) 0 ≡ x
 
--- there is a 0 only for a group of sixteen places of which none is marked
-pub record Grouped (ready groups : List ℕ) : Type 0 where
+-- a group of sixteen places that is not marked has no place that is
+pub record Grouped (places groups : List Bool) : Type 0 where
   pub long : length groups ≡ 16
-  pub none : (y : ℕ) → y < 256 → get_or groups (y / 16) 0 ≡ 0 → get_or ready y 0 ≢ 1
-
--- place x is marked where k is 0
-pub record MarkedIf (k : ℕ) (ready groups ready' groups' : List ℕ) (x : ℕ) : Type 0 where
-  pub if_so : k ≡ 0 → (ready' ≡ set ready x 1) × (groups' ≡ set groups (x / 16) 1)
-  pub if_not : k ≢ 0 → (ready' ≡ ready) × (groups' ≡ groups)
+  pub none : (y : ℕ) → y < 256 → get_or groups (y / 16) false ≡ false → get_or places y false ≢ true
 
 -- a mark says that no arrow goes there
-pub record Mark (arrows mark : ℕ) : Type 0 where
-  pub none : mark ≡ 1 → arrows ≡ 0
-  pub marked : arrows ≡ 0 → mark ≡ 1
+pub record Mark (arrows : ℕ) (mark : Bool) : Type 0 where
+  pub none : mark ≡ true → arrows ≡ 0
+  pub marked : arrows ≡ 0 → mark ≡ true
 
 -- of the first b of the order, those are marked that no arrow goes to
-pub record Sources (order left ready : List ℕ) (b : ℕ) : Type 0 where
+pub record Sources (order left : List ℕ) (ready : List Bool) (b : ℕ) : Type 0 where
   pub long : length ready ≡ 256
-  pub marks : (x : ℕ) → x < b → Mark (get_or left (get_or order x 0) 0) (get_or ready x 0)
+  pub marks : (x : ℕ) → x < b → Mark (get_or left (get_or order x 0) 0) (get_or ready x false)

@@ -2,9 +2,11 @@
 #![tactic(auto)]
 
 mod events;
+mod holders;
+mod marks;
 mod order;
 mod rule;
-mod scan;
+mod starts;
 mod tables;
 
 ghost use Rattle.terms.specs.Replies.{IsListed};

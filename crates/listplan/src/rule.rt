@@ -5,40 +5,41 @@ ghost use Rattle.terms.specs.Paths.{total_work};
 ghost use Rattle.terms.specs.ListRule.{IsOrder, IsListPlan};
 ghost use Rattle.theory.specs.Sound.{SoundGraph};
 ghost use Rattle.forms.specs.Forms.{never};
-ghost use Rattle.listplan.specs.Tables.{Grouped};
-ghost use Rattle.listplan.specs.Making.{Job, Making};
+ghost use Rattle.listplan.specs.Making.{IsJob, Making};
 
-use crate::events::{count_off, end_on, start_on};
-use crate::scan::{first_due, first_to_end, next_start, unmark};
+use crate::events::count_off;
+use crate::holders::Holders;
+use crate::marks::Marks;
+use crate::starts::next_start;
 use crate::tables::{chain_arrows, rank_subtasks};
 use forms::{NEVER, NOT_PLACED};
-use inputs::subtask_at;
+use inputs::{subtask_at, time_of};
 use terms::{Entry, Processor};
+
+// What stays the same while a plan is made: the input; the chains of the arrows by where they come from; where each subtask stands in the
+// order.
+#[derive(Clone, Copy)]
+pub struct Job<'a> {
+    pub times: &'a [u16],
+    pub arrows: &'a [[u16; 2]],
+    pub m: usize,
+    pub order: &'a [u16],
+    pub first: &'a [u16; 257],
+    pub next: &'a [u16; 2048],
+    pub rank: &'a [u16; 257],
+    ghost sound: { IsJob times.now arrows.now order.now m first.now next.now rank.now },
+}
 
 // Makes the list plan. At t each subtask that ends (`due` is the first processor with one) leaves its processor, and its arrows are counted
 // off (c is the position of the next one); then whatever can go goes; then the clock moves to the soonest end. No processor before `free` is
 // free, and no place of the order below `low` is marked.
-fn follow_rule(
-    times: &[u16],
-    arrows: &[[u16; 2]],
-    m: usize,
-    order: &[u16],
-    first: &[u16; 257],
-    next: &[u16; 2048],
-    rank: &[u16; 257],
-    left: &mut [u16; 257],
-    ready: &mut [u8; 256],
-    groups: &mut [u8; 16],
-    plan: &mut [Entry],
-)
-    requires job { Job times.now arrows.now order.now m first.now next.now rank.now }
-    requires making { Making times.now arrows.now order.now m 0 0 left.old ready.old (replicate 17 never) (replicate 17 0) plan.old }
-    requires grouped { Grouped ready.old groups.old }
-    ensures list_plan { IsListPlan times.now arrows.now order.now m plan.new }
-    ensures whole { length plan.new ≡ length times.now }
+fn follow_rule(job: &Job, left: &mut [u16; 257], marks: &mut Marks, plan: &mut [Entry])
+    requires { Making job.now.times.now job.now.arrows.now job.now.order.now job.now.m
+        0 0 left.old marks.old (replicate 17 never) (replicate 17 0) plan.old }
+    ensures list_plan { IsListPlan job.now.times.now job.now.arrows.now job.now.order.now job.now.m plan.new }
+    ensures whole { length plan.new ≡ length job.now.times.now }
 {
-    let mut until = [NEVER; 17];
-    let mut who = [0u16; 17];
+    let mut holders = Holders::none();
     let mut t: u32 = 0;
     let mut c: usize = 0;
     let mut due: Option<Processor> = None;
@@ -46,35 +47,31 @@ fn follow_rule(
     let mut low: usize = 0;
     loop {
         if c != 0 {
-            low = count_off(arrows, rank, left, ready, groups, c - 1, low);
-            c = usize::from(next[c - 1]);
+            low = count_off(job, left, marks, c - 1, low);
+            c = usize::from(job.next[c - 1]);
             continue;
         }
         if let Some(processor) = due {
-            c = end_on(first, &mut until, &mut who, processor);
-            due = first_due(&until, m, t, usize::from(processor.0) + 1);
+            c = usize::from(job.first[holders.leave(processor).0]);
+            due = holders.first_due(job.m, t, usize::from(processor.0) + 1);
             free = Processor(1);
             continue;
         }
-        if let Some(start) = next_start(ready, groups, low, order.len(), &who, m, free) {
-            let subtask = subtask_at(order, start.place);
-            start_on(
-                times,
-                plan,
-                &mut until,
-                &mut who,
-                subtask,
-                start.processor,
-                t,
-            );
-            unmark(ready, groups, start.place);
+        if let Some(start) = next_start(marks, low, job.order.len(), &holders, job.m, free) {
+            let subtask = subtask_at(job.order, start.place);
+            plan[subtask.0 - 1] = Entry {
+                processor: start.processor,
+                start: t,
+            };
+            holders.enter(subtask, start.processor, t + time_of(job.times, subtask));
+            marks.unmark(start.place);
             free = start.processor;
             low = start.place + 1;
             continue;
         }
-        let soonest = first_to_end(&until, m);
+        let soonest = holders.soonest(job.m);
         due = Some(soonest);
-        t = until[usize::from(soonest.0)];
+        t = holders.until[usize::from(soonest.0)];
         if t == NEVER {
             return;
         }
@@ -93,22 +90,18 @@ pub fn make_plan(times: &[u16], arrows: &[[u16; 2]], m: usize, order: &[u16], pl
     let mut next = [0u16; 2048];
     let mut left = [0u16; 257];
     let mut rank = [0u16; 257];
-    let mut ready = [0u8; 256];
-    let mut groups = [0u8; 16];
+    let mut marks = Marks::none();
     chain_arrows(arrows, &mut first, &mut next, &mut left);
-    rank_subtasks(order, &left, &mut rank, &mut ready, &mut groups);
+    rank_subtasks(order, &left, &mut rank, &mut marks);
     plan.fill(NOT_PLACED);
-    follow_rule(
+    let job = Job {
         times,
         arrows,
         m,
         order,
-        &first,
-        &next,
-        &rank,
-        &mut left,
-        &mut ready,
-        &mut groups,
-        plan,
-    );
+        first: &first,
+        next: &next,
+        rank: &rank,
+    };
+    follow_rule(&job, &mut left, &mut marks, plan);
 }

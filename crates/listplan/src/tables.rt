@@ -1,10 +1,10 @@
 // The tables that are made once for a list plan.
-ghost use Rattle.std.specs.Prelude.{◌≡◌, ◌<◌, length, replicate};
+ghost use Rattle.std.specs.Prelude.{◌≡◌, false, length, replicate};
 ghost use Rattle.terms.specs.Graphs.{from_of};
 ghost use Rattle.graph.specs.Chains.{Chains};
-ghost use Rattle.listplan.specs.Tables.{Roomy, ArrowsTo, Distinct, Ranks, Grouped, MarkedIf, Sources};
+ghost use Rattle.listplan.specs.Tables.{Roomy, ArrowsTo, Distinct, Ranks, Sources};
 
-use inputs::{from_at, to_at};
+use crate::marks::Marks;
 
 // For each subtask the chain of the arrows from it, the latest first: `first` holds the position of that one, `next` of the one before
 // it. And how many arrows go to each subtask.
@@ -19,44 +19,26 @@ pub fn chain_arrows(
     ensures chains { Chains (from_of arrows.now) first.new next.new (length arrows.now) }
     ensures arrows_to { ArrowsTo arrows.now left.new (length arrows.now) }
 {
-    for i in 0..arrows.len() {
-        let u = from_at(arrows, i).0;
-        let v = to_at(arrows, i).0;
+    for (i, &[from, to]) in arrows.iter().enumerate() {
+        let u = usize::from(from);
         next[i] = first[u];
         first[u] = (i + 1) as u16;
-        left[v] += 1;
+        left[usize::from(to)] += 1;
     }
-}
-
-// Marks place x of the order where so many arrows, none, hold its subtask back. Its group of sixteen places is marked with it.
-pub fn mark(ready: &mut [u8; 256], groups: &mut [u8; 16], x: usize, arrows: u16)
-    requires { (x < 256) × (length ready.old ≡ 256) × (length groups.old ≡ 16) }
-    ensures { MarkedIf arrows ready.old groups.old ready.new groups.new x }
-{
-    if arrows != 0 {
-        return;
-    }
-    ready[x] = 1;
-    groups[x / 16] = 1;
 }
 
 // Where each subtask stands in the order; and a mark for each place of the order whose subtask has no predecessor.
-pub fn rank_subtasks(
-    order: &[u16],
-    left: &[u16; 257],
-    rank: &mut [u16; 257],
-    ready: &mut [u8; 256],
-    groups: &mut [u8; 16],
-)
+pub fn rank_subtasks(order: &[u16], left: &[u16; 257], rank: &mut [u16; 257], marks: &mut Marks)
     requires distinct { Distinct order.now }
-    requires left_len { (length left.now ≡ 257) × (length rank.old ≡ 257) × (ready.old ≡ replicate 256 0) × (length groups.old ≡ 16) }
+    requires left_len { (length left.now ≡ 257) × (length rank.old ≡ 257) × (marks.old ≡ replicate 256 false) }
     ensures ranks { Ranks order.now rank.new (length order.now) }
-    ensures sources { Sources order.now left.now ready.new (length order.now) }
-    ensures grouped { Grouped ready.new groups.new }
+    ensures sources { Sources order.now left.now marks.new (length order.now) }
 {
     for (x, number) in order.iter().enumerate() {
         let j = usize::from(*number);
         rank[j] = x as u16;
-        mark(ready, groups, x, left[j]);
+        if left[j] == 0 {
+            marks.mark(x);
+        }
     }
 }

@@ -53,7 +53,8 @@ module _ (text : List ℕ) (ts : List ℕ) (ar : List (List ℕ)) (ts' : List �
     unfolding Leaves
     closing_refused refusal c = to_close (Err refusal) c
 
-    pub closing_sound : exit_line (n + 1) (lines (drop f text)) ≡ graph [] [] → Among 1 256 n
-        → Leaves ts ar (task_lines 1 n (lines (drop e text))) ts' ar' (Ok (record { subtasks = n; arrows = b }))
+    -- the lent row holds in the end what was put down
+    pub closing_sound : (row : List (List ℕ)) → row ≡ ar' → exit_line (n + 1) (lines (drop f text)) ≡ graph [] [] → Among 1 256 n
+        → Leaves ts ar (task_lines 1 n (lines (drop e text))) ts' row (Ok (record { subtasks = n; arrows = b }))
     unfolding Leaves
-    closing_sound c size = (to_close (Ok tt) c ∙ rw (add-zero n, add-zero b), size)
+    closing_sound row q c size = rw q (to_close (Ok tt) c ∙ rw (add-zero n, add-zero b), size)

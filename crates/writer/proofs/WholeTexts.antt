@@ -88,3 +88,8 @@ module _ (times begins numbers lasts : List ℕ) where
     length-append (task_line 0 0 []) after_entry,
     length-append (subtasks_text times begins numbers) exit,
   )
+
+-- what a room holds in the end
+pub left_in : {before after bytes : List ℕ} {at past : ℕ} (text : List ℕ) → text ≡ after → Stands before at bytes after past
+    → (k : ℕ) × Stands before at bytes text k
+left_in {past = past} text e s = (past, rw e s)

@@ -5,8 +5,8 @@ use Rattle.listplan.proofs.rule.follow_rule.Given as goal
 
 abbrev pub invariant-loop-c : goal.invariant-loop-c
 invariant-loop-c l =
-    Following l.initial.times l.initial.arrows l.initial.order l.initial.m l.t l.c l.left l.ready l.groups l.until l.who l.plan l.due l.free.0 l.low
+    Following l.job.times.now l.job.arrows.now l.job.order.now l.job.m l.t l.c l.left l.marks l.holders.until l.holders.who l.plan l.due l.free.0 l.low
 
 abbrev pub decreases-loop-c : goal.decreases-loop-c
 decreases-loop-c l =
-    to_do l.initial.times l.t l.left l.who l.plan
+    to_do l.job.times.now l.t l.left l.holders.who l.plan

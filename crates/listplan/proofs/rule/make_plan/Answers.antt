@@ -1,11 +1,11 @@
 -- `make_plan`: the tables are made, and the row then holds the list plan. Assumes nothing.
-use Rattle.listplan.specs.Making.{Job}
+use Rattle.listplan.specs.Making.{IsJob}
 use Rattle.listplan.proofs.Beginning.{nothing_placed}
 use Rattle.listplan.proofs.rule.make_plan.Goals as goal
 
-pub follow_rule-requires-clause-making : goal.follow_rule-requires-clause-making
-follow_rule-requires-clause-making c =
-    let job : Job c.args.times.now c.args.arrows.now c.args.order.now c.args.m _ _ _ =
+pub follow_rule-requires : goal.follow_rule-requires
+follow_rule-requires c =
+    let job : IsJob c.args.times.now c.args.arrows.now c.args.order.now c.args.m _ _ _ =
     record {
       graph = c.requires.sound_graph;
       within = c.requires.among.0;

@@ -3,4 +3,4 @@ use Rattle.listplan.proofs.Ranking.{ranked_none}
 use Rattle.listplan.proofs.tables.rank_subtasks.Goals as goal
 
 pub loop-x-init : goal.loop-x-init
-loop-x-init c = ranked_none c.requires.left_len.1 c.requires.left_len.2 c.requires.left_len.3
+loop-x-init c = ranked_none c.requires.left_len.1 c.requires.left_len.2

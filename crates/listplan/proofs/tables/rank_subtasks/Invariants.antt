@@ -3,4 +3,4 @@ use Rattle.listplan.proofs.Ranking.{Ranked}
 use Rattle.listplan.proofs.tables.rank_subtasks.Given as goal
 
 abbrev pub invariant-loop-x : goal.invariant-loop-x
-invariant-loop-x l = Ranked l.order l.left l.rank l.ready l.groups l.x
+invariant-loop-x l = Ranked l.order l.left l.rank l.marks l.x

@@ -1,8 +1,0 @@
--- `first_due`: none of the processors that came so far has an end by t. Assumes nothing.
-use Rattle.std.proofs.Common.{◌+◌, ◌≤◌}
-use Rattle.theory.specs.First.{NoneBelow}
-use Rattle.listplan.specs.Making.{IsDue}
-use Rattle.listplan.proofs.scan.first_due.Given as goal
-
-abbrev pub invariant-loop-p : goal.invariant-loop-p
-invariant-loop-p l = (1 ≤ l.p) × NoneBelow (IsDue l.until l.t) (l.m + 1) l.p

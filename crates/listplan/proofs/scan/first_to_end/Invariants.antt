@@ -1,7 +1,0 @@
--- `first_to_end`: the first of the processors that came so far with the soonest end. Assumes nothing.
-use Rattle.std.proofs.Common.{◌-◌}
-use Rattle.listplan.specs.Making.{Soonest}
-use Rattle.listplan.proofs.scan.first_to_end.Given as goal
-
-abbrev pub invariant-loop-p : goal.invariant-loop-p
-invariant-loop-p l = Soonest l.until (l.p - 1) l.first
