@@ -1,9 +1,5 @@
 -- All lines of a text, in order. Assumes nothing.
-use mathlib.Core.Path.{◌≡◌, ◌∙◌, ap}
-use mathlib.Core.List.{List, []}
-use Prim.Native.Nat.{ℕ, ◌+◌}
-use native.Mathlib.Nat.{add-zero}
-use lib.ListN.{drop}
+use Rattle.std.proofs.Common.{◌≡◌, ◌∙◌, ap, List, [], ℕ, ◌+◌, add-zero, drop, Result, Ok, Err}
 use Rattle.terms.specs.Graphs.{Among}
 use Rattle.terms.specs.Texts.{lines}
 use Rattle.terms.specs.Readings.{Reading, refuse, graph, trailer, exit_line, task_lines, read_lines}
@@ -11,7 +7,6 @@ use Rattle.terms.specs.declared.Refusal.{Refusal}
 use Rattle.text.specs.Rest.{line, later}
 use Rattle.stg.specs.LinesRead.{outcome, FirstIs, Dummy, dummy, AllSubtasks, Opened, closed, Leaves}
 use Rattle.stg.proofs.OneLine.{entry_line_lem, exit_line_lem}
-use Rattle.std.specs.Prelude.{Result, Ok, Err}
 
 -- the first line and the entry dummy's
 module _ {text : List ℕ} {n e : ℕ} (f : FirstIs text n e) where

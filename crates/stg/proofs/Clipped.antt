@@ -1,13 +1,8 @@
 -- A graph whose arrows are held with clipped tails is answered by 2 to 7 as the graph itself. Assumes nothing.
-use mathlib.Core.Path.{◌≡◌, refl, sym}
-use mathlib.Core.Logic.{◌⊎◌, inl, inr, ⊎_elim}
-use mathlib.Core.List.{List, [], ◌∷◌, ◌++◌, map}
-use mathlib.Core.Bool.{Bool, true, false}
-use Prim.Native.Nat.{ℕ, zero, suc, ◌-◌, ◌≤◌, ◌<◌}
-use native.Mathlib.Omega.{arith}
-use borrow.Author.Tests.{le-leb, lt-leb, leb-true, leb-false}
-use lib.Dec.{leb}
-use lib.ListN.{length, get_or, take, length-map}
+use Rattle.std.proofs.Common.{◌≡◌, refl, sym, ◌⊎◌, inl, inr, ⊎_elim, List, [], ◌∷◌, ◌++◌, map, Bool, true, false, ℕ, zero, suc, ◌-◌, ◌≤◌, ◌<◌, arith, le-leb}
+use Rattle.std.proofs.Common.{leb-true, leb-false, leb, length, get_or, take, Result, Ok, Err}
+use borrow.Author.Tests.{lt-leb}
+use lib.ListN.{length-map}
 use Rattle.terms.specs.Rows.{Smallest, IsAt, Accepted, RefusedBy}
 use Rattle.terms.specs.Graphs.{Among, IsSubtask, from_of, to_of}
 use Rattle.terms.specs.Refusals.{SomeArrow, NamesOutside, ArrowAt, count_rows, time_rows, subtask_rows, size_rows, arrow_rows, time_and_arrow_rows, graph_rows}
@@ -19,7 +14,6 @@ use Rattle.theory.proofs.Stops.{smallest_as}
 use Rattle.theory.proofs.Accepted.{read_refused, read_accepted}
 use Rattle.stg.specs.LinesRead.{clipped, hold}
 use Rattle.stg.specs.RowsRead.{AllPairs, ChecksRead}
-use Rattle.std.specs.Prelude.{Result, Ok, Err}
 use Rattle.terms.specs.declared.Refusal.TheVariants.{ArrowCount}
 
 from_held : (bs : List (List ℕ)) (i : ℕ) → i < length bs → from_of (map hold bs) i ≡ clipped (from_of bs i)

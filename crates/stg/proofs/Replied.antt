@@ -1,13 +1,9 @@
 -- From the room, the lines and the check to the reply. Assumes nothing.
-use mathlib.Core.Path.{◌≡◌, refl, sym, ◌∙◌, ap}
-use mathlib.Core.List.{List, map}
-use mathlib.Core.Bool.{◌&&◌}
-use Prim.Native.Nat.{ℕ, ◌+◌, ◌≤◌, ◌<◌}
-use native.Mathlib.Omega.{arith}
-use borrow.Author.Tests.{le-leb, lt-leb}
-use lib.Dec.{leb}
-use lib.ListN.{length, take, drop, length-map, length-take}
-use lib.Seq.{sets, sets-eq, take_at}
+use Rattle.std.proofs.Common.{◌≡◌, refl, sym, ◌∙◌, ap, List, map, ◌&&◌, ℕ, ◌+◌, ◌≤◌, ◌<◌, arith, le-leb, leb, length, take, drop, length-take, take_at}
+use Rattle.std.proofs.Common.{Result, Ok, Err}
+use borrow.Author.Tests.{lt-leb}
+use lib.ListN.{length-map}
+use lib.Seq.{sets, sets-eq}
 use Rattle.terms.specs.Rows.{Accepted}
 use Rattle.terms.specs.Graphs.{Among}
 use Rattle.terms.specs.Refusals.{time_and_arrow_rows}
@@ -20,7 +16,6 @@ use Rattle.stg.specs.LinesRead.{hold, Fails, Rows, outcome, Leaves}
 use Rattle.stg.specs.RowsRead.{AllPairs, Stored, ChecksRead, RoomOf, IsRefusalOf, Begins, TellsOf, kept_by, ClearedPast}
 use Rattle.stg.proofs.TwoEnds.{PairsIn, pairs_reading}
 use Rattle.stg.proofs.Clipped.{unclipped, accepted_first_rows}
-use Rattle.std.specs.Prelude.{Result, Ok, Err}
 use Rattle.terms.specs.declared.Refusal.TheVariants.{Room, TextLength}
 
 -- ---- what is asked first

@@ -1,10 +1,6 @@
 -- The lines of the subtasks, one by one: what is put and what remains make up all, and so do what is counted and what remains. Assumes nothing.
-use mathlib.Core.Path.{◌≡◌, refl, sym, ap, ap₂, ◌∙◌}
-use mathlib.Core.List.{List, [], ◌∷◌, ◌++◌, append_assoc}
-use Prim.Native.Nat.{ℕ, suc, ◌+◌, ◌*◌, ◌≤◌, ◌<◌}
-use native.Mathlib.Omega.{arith}
-use lib.ListN.{length, get_or, drop, length-append, drop_of_length-le}
-use lib.Seq.{drop-cons}
+use Rattle.std.proofs.Common.{◌≡◌, refl, sym, ap, ap₂, ◌∙◌, List, [], ◌∷◌, ◌++◌, append_assoc, ℕ, suc, ◌+◌, ◌*◌, ◌≤◌, ◌<◌, arith, length, get_or, drop}
+use Rattle.std.proofs.Common.{length-append, drop_of_length-le, drop-cons}
 use Rattle.terms.specs.Arrangements.{row_of}
 use Rattle.terms.specs.Writings.{line, text_of, with_count, subtask_lines}
 use Rattle.room.specs.Puts.{HasRoom, Stands}

@@ -1,10 +1,6 @@
 -- The line of a task, number by number: what is put and what remains make up the line, and so do what is counted and what remains. Assumes nothing.
-use mathlib.Core.Path.{◌≡◌, refl, sym, ap, ◌∙◌}
-use mathlib.Core.List.{List, [], ◌∷◌, ◌++◌, append_assoc}
-use Prim.Native.Nat.{ℕ, suc, ◌+◌, ◌*◌, ◌≤◌, ◌<◌}
-use native.Mathlib.Omega.{arith}
-use lib.ListN.{length, get_or, drop, length-append, drop_of_length-le}
-use lib.Seq.{drop-cons}
+use Rattle.std.proofs.Common.{◌≡◌, refl, sym, ap, ◌∙◌, List, [], ◌∷◌, ◌++◌, append_assoc, ℕ, suc, ◌+◌, ◌*◌, ◌≤◌, ◌<◌, arith, length, get_or, drop, length-append}
+use Rattle.std.proofs.Common.{drop_of_length-le, drop-cons}
 use Rattle.terms.specs.Writings.{decimal, further, line, with_count}
 use Rattle.room.specs.Puts.{HasRoom, Stands, Put}
 use Rattle.room.proofs.Remaining.{Remains, remains_all, remains_same, remains_room, remains_stands, remains_put, remains_none}
