@@ -65,9 +65,9 @@ impl Marks {
         ensures { self.new ≡ set self.old x false }
     {
         self.places[x] = false;
-        let group = x / 16;
-        if !self.places[group * 16..group * 16 + 16].contains(&true) {
-            self.groups[group] = false;
+        let end = x / 16 * 16 + 16;
+        if !self.places[x + 1..end].contains(&true) {
+            self.groups[x / 16] = false;
         }
     }
 }
