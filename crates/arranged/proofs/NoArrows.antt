@@ -1,18 +1,14 @@
 -- Those that no arrow has at one side: marked arrow by arrow, put to the front of a row one by one; in an accepted graph they are those without
 -- successors, or without predecessors. Assumes nothing.
-use mathlib.Core.Path.{◌≡◌, refl, sym, ap, ap₂, ◌∙◌}
-use mathlib.Core.Bool.{Bool, true, false, cond}
-use mathlib.Core.List.{List, [], ◌∷◌, ◌++◌, append-nil}
-use Prim.Native.Nat.{ℕ, zero, suc, ◌+◌, ◌-◌, ◌≤◌, ◌<◌, min}
-use native.Mathlib.Omega.{arith}
-use lib.Dec.{eqb}
-use lib.ListN.{length, get_or, set, take, drop, replicate, length-set, length-append, length-replicate, get_or-replicate}
-use lib.Seq.{take-suc, take-length, drop-cons, append_snoc, take_at, set_at, set-get_or}
-use borrow.Author.Tests.{eq-eqb, ne_eqb, eqb-true, eqb-false}
+use Rattle.std.proofs.Common.{◌≡◌, refl, sym, ap, ap₂, ◌∙◌, Bool, true, false, cond, List, [], ◌∷◌, ◌++◌, append-nil, ℕ, zero, suc, ◌+◌, ◌≤◌, ◌<◌, min, arith, eqb, length, get_or, set, take, drop, replicate, length-set, length-append, take-suc, drop-cons, take_at, get_or-set_same, get_or-set_other, eq-eqb, ne_eqb, eqb-true}
+use native.Mathlib.Decide.{ℕ_discrete}
+use mathlib.Core.Logic.{by_cases}
+use lib.ListN.{length-replicate, get_or-replicate}
+use lib.Seq.{take-length, append_snoc, set_at}
+use borrow.Author.Tests.{eqb-false}
 use Rattle.terms.specs.Graphs.{from_of, to_of}
 use Rattle.terms.specs.Arrangements.{has_arrow, passing, predecessors_of, successors_of, is_none, lasts_of, firsts_of}
 use Rattle.theory.specs.Sound.{SoundGraph}
-use Rattle.theory.proofs.Stores.{read_set}
 use Rattle.theory.proofs.Ascending.{has_none, has_some, passing_has, has_passing, passing_same}
 use Rattle.theory.proofs.TextLengths.{passing_few}
 use Rattle.theory.proofs.SortedArrows.{has_precedes, precedes_has}
@@ -40,117 +36,101 @@ module _ (side : Side) (x : List ℕ) (v : ℕ) where
 
 -- ---- the marks, arrow by arrow
 
-pub marks_none : (side : Side) (arrows : List (List ℕ)) → Marks side arrows 0 (replicate 258 1)
+pub marks_none : (side : Side) (arrows : List (List ℕ)) → Marks side arrows 0 (replicate 258 true)
 unfolding is_free
 marks_none side arrows = record {
-  long = length-replicate {A = ℕ} 258 1;
-  mark = λ v l. get_or-replicate {A = ℕ} 258 v 1 0 (omega (arith, l));
+  long = length-replicate {A = Bool} 258 true;
+  mark = λ v l. get_or-replicate {A = Bool} 258 v true false (omega (arith, l));
 }
 
-pub marks_more : {side : Side} {arrows : List (List ℕ)} {k : ℕ} {marks : List ℕ} (end at : ℕ) → k < length arrows → end ≡ end_of side arrows k → at ≡ min end 257
-    → Marks side arrows k marks → Marks side arrows (k + 1) (set marks at 0)
-marks_more {side} {arrows} {k} {marks} end at l e m marked = record {
-  long = length-set marks at 0 ∙ marked.long;
-  mark = λ v b. read_set (λ (y : ℕ). y ≡ cond (is_free side (take (k + 1) arrows) v) 1 0) marks at 0 v (omega (arith, m, marked.long))
-      (λ q. ap (λ (t : Bool). cond t 1 0) (sym (ap (λ (row : List (List ℕ)). is_free side row v) more
-      ∙ free_met side (get_or arrows k []) v (take k arrows) (sym e ∙ here v b q))))
-      (λ n. marked.mark v b ∙ ap (λ (t : Bool). cond t 1 0) (sym (ap (λ (row : List (List ℕ)). is_free side row v) more
-      ∙ free_missed side (get_or arrows k []) v (take k arrows) (λ z. n (there v b (e ∙ z))))));
+pub marks_more : {side : Side} {arrows : List (List ℕ)} {k : ℕ} {free : List Bool} (v at : ℕ) → k < length arrows → v ≡ end_of side arrows k → at ≡ min v 257
+    → Marks side arrows k free → Marks side arrows (k + 1) (set free at false)
+marks_more {side} {arrows} {k} {free} x at l e m marked = record {
+  long = length-set free at false ∙ marked.long;
+  mark = λ v b. by_cases (ℕ_discrete v at)
+      (λ q. rw q (get_or-set_same free at false false (omega (arith, m, marked.long)))
+      ∙ sym (ap (λ (row : List (List ℕ)). is_free side row v) more ∙ free_met side (get_or arrows k []) v (take k arrows) (sym e ∙ here v b q)))
+      (λ n. get_or-set_other free at v false false n
+      ∙ marked.mark v b
+      ∙ sym (ap (λ (row : List (List ℕ)). is_free side row v) more
+      ∙ free_missed side (get_or arrows k []) v (take k arrows) (λ z. n (there v b (e ∙ z)))));
 }
   where
     more : take (k + 1) arrows ≡ take k arrows ++ get_or arrows k [] ∷ []
     more = let s : k + 1 ≡ suc k = omega arith in ap (λ (c : ℕ). take c arrows) s ∙ take-suc arrows k [] l
 
-    here : (v : ℕ) → v < 257 → v ≡ at → end ≡ v
+    here : (v : ℕ) → v < 257 → v ≡ at → x ≡ v
     here v b q = omega (arith, b, q, m)
 
-    there : (v : ℕ) → v < 257 → end ≡ v → v ≡ at
+    there : (v : ℕ) → v < 257 → x ≡ v → v ≡ at
     there v b q = omega (arith, b, q, m)
 
 -- ---- those of 1..n that are marked, one by one
 
--- those of 1..j stand in front
-pub record FrontTo (side : Side) (arrows : List (List ℕ)) (before : List ℕ) (most : ℕ) (list : List ℕ) (count j : ℕ) : Type 0 where
-  pub front : list ≡ passing (is_free side arrows) j ++ drop count before
-  pub counted : count ≡ length (passing (is_free side arrows) j)
-  pub fewer : count ≤ j
-  pub inside : j ≤ most
-  pub few : most ≤ 256
+passing_also : (test : ℕ → Bool) (i : ℕ) → test (suc i) ≡ true → passing test (suc i) ≡ passing test i ++ suc i ∷ []
+unfolding passing
+passing_also test i e = rw e refl
+
+passing_but : (test : ℕ → Bool) (i : ℕ) → test (suc i) ≡ false → passing test (suc i) ≡ passing test i
+unfolding passing
+passing_but test i e = rw e (append-nil (passing test i))
+
+-- those of 1..i stand in front
+pub record FrontTo (side : Side) (arrows : List (List ℕ)) (before list : List ℕ) (most count i : ℕ) : Type 0 where
+  pub front : list ≡ passing (is_free side arrows) i ++ drop count before
+  pub counted : count ≡ length (passing (is_free side arrows) i)
+  pub fewer : count ≤ i
+  pub few : i ≤ most
   pub long : length list ≡ 256
 
-pub front_none : {side : Side} {arrows : List (List ℕ)} {before : List ℕ} (n most : ℕ) → most ≡ min n 256 → length before ≡ 256
-    → FrontTo side arrows before most before 0 0
-unfolding passing
-front_none n most e long = record { front = refl; counted = refl; fewer = omega arith; inside = omega arith; few = omega (arith, e); long = long }
-
-module _ (test : ℕ → Bool) (before : List ℕ) (j : ℕ) where
-  -- the next number is put down behind them where it is marked
-  one_more : (t : Bool) (count : ℕ) → count < length before → test (suc j) ≡ t → count ≡ length (passing test j)
-      → set (passing test j ++ drop count before) count (cond (eqb (cond t 1 0) 0) (get_or (passing test j ++ drop count before) count 0) (suc j))
-      ≡ passing test (suc j) ++ drop (count + cond t 1 0) before
-  unfolding passing
-  one_more true count l q e =
-      let s : suc count ≡ count + 1 = omega arith in
-      ap (λ (row : List ℕ). set (passing test j ++ row) count (suc j)) (drop-cons before count 0 l)
-      ∙ set_at (passing test j) (get_or before count 0) (drop (suc count) before) (suc j) count (sym e)
-      ∙ sym (append_snoc (passing test j) (suc j) (drop (suc count) before))
-      ∙ ap₂ (λ (t : Bool) (c : ℕ). passing test j ++ cond t (suc j ∷ []) [] ++ drop c before) (sym q) s
-  one_more false count l q e =
-      let s : count ≡ count + 0 = omega arith in
-      set-get_or (passing test j ++ drop count before) count 0
-      ∙ ap (λ (row : List ℕ). row ++ drop count before) (sym (append-nil (passing test j)))
-      ∙ ap₂ (λ (t : Bool) (c : ℕ). passing test j ++ cond t (suc j ∷ []) [] ++ drop c before) (sym q) s
-
-  count_more : (t : Bool) (count : ℕ) → test (suc j) ≡ t → count ≡ length (passing test j) → count + cond t 1 0 ≡ length (passing test (suc j))
-  unfolding passing
-  count_more t count q e = rw (length-append (passing test j) (cond (test (suc j)) (suc j ∷ []) []), q, e) (ap (λ (k : ℕ). length (passing test j) + k) (one t))
-    where
-      one : (t : Bool) → cond t 1 0 ≡ length (cond t (suc j ∷ []) [])
-      one true = refl
-      one false = refl
-
-one_or_none : (t : Bool) → cond t 1 0 ≤ 1
-one_or_none true = omega arith
-one_or_none false = omega arith
-
 module _ {side : Side} {arrows : List (List ℕ)} {before : List ℕ} {most : ℕ} where
-  front_more : {marks list : List ℕ} {count j : ℕ} (mark wide put : ℕ) → length before ≡ 256 → Marks side arrows (length arrows) marks
-      → mark ≡ get_or marks (j + 1) 0 → wide ≡ mark → put ≡ cond (eqb mark 0) (get_or list count 0) (j + 1)
-      → j < most → FrontTo side arrows before most list count j → FrontTo side arrows before most (set list count put) (count + wide) (j + 1)
-  front_more {marks} {list} {count} {j} mark wide put was marked e w p l far =
-      let s : j + 1 ≡ suc j = omega arith in
-      let t : Bool = is_free side arrows (suc j) in
-      let said : mark ≡ cond t 1 0 = e ∙ marked.mark (j + 1) (omega (arith, l, far.few))
-      ∙ ap₂ (λ (row : List (List ℕ)) (i : ℕ). cond (is_free side row i) 1 0) (take-length arrows) s in
-      let behind : count < length before = omega (arith, far.fewer, l, far.few, was) in
-      let wider : wide ≡ cond t 1 0 = w ∙ said in
-      record {
-        front = ap (λ (x : ℕ). set list count x) (p ∙ ap₂ (λ (b i : ℕ). cond (eqb b 0) (get_or list count 0) i) said s)
-            ∙ ap (λ (row : List ℕ). set row count (cond (eqb (cond t 1 0) 0) (get_or row count 0) (suc j))) far.front
-            ∙ one_more (is_free side arrows) before j t count behind refl far.counted
-            ∙ ap₂ (λ (i c : ℕ). passing (is_free side arrows) i ++ drop (count + c) before) (sym s) (sym wider);
-        counted = ap (λ (c : ℕ). count + c) wider ∙ count_more (is_free side arrows) before j t count refl far.counted
-            ∙ ap (λ (i : ℕ). length (passing (is_free side arrows) i)) (sym s);
-        fewer = omega (arith, far.fewer, wider, one_or_none t);
-        inside = omega arith;
-        few = far.few;
-        long = length-set list count put ∙ far.long;
-      }
+  pub front_none : length before ≡ 256 → FrontTo side arrows before before most 0 0
+  unfolding passing
+  front_none long = record { front = refl; counted = refl; fewer = omega arith; few = omega arith; long = long }
 
-  pub front_next : {marks list : List ℕ} {count j : ℕ} (mark wide put : ℕ) → length before ≡ 256 → Marks side arrows (length arrows) marks
-      → mark ≡ get_or marks j 0 → wide ≡ mark → put ≡ cond (eqb mark 0) (get_or list count 0) j
-      → 1 ≤ j → j ≤ most → FrontTo side arrows before most list count (j - 1) → FrontTo side arrows before most (set list count put) (count + wide) j
-  front_next {j = j} mark wide put was marked e w p low l far =
-      let s : j - 1 + 1 ≡ j = omega (arith, low) in
-      rw s at (front_more mark wide put was marked (rw s e) w (rw s p) (omega (arith, low, l)) far)
+  module _ {list : List ℕ} {count i : ℕ} (was : length before ≡ 256) (far : FrontTo side arrows before list most count i) (small : most ≤ 256)
+      {j : ℕ} (e : j ≡ suc i) (l : j ≤ most) where
+    test : ℕ → Bool
+    test = is_free side arrows
 
-  pub front_all : {list : List ℕ} {count j : ℕ} → most ≤ j → FrontTo side arrows before most list count j → IsFront (free_of side arrows most) before list count
+    -- j is one of them
+    pub front_also : is_free side arrows j ≡ true → FrontTo side arrows before (set list count j) most (count + 1) j
+    unfolding test
+    front_also t =
+        let next : passing test j ≡ passing test i ++ j ∷ [] = rw (← e) at (passing_also test i (rw (← e) t)) in
+        let n : suc count ≡ count + 1 = omega arith in
+        record {
+          front = ap (λ (row : List ℕ). set row count j)
+              (far.front ∙ ap (λ (row : List ℕ). passing test i ++ row) (drop-cons before count 0 (omega (arith, far.fewer, e, l, small, was))))
+              ∙ set_at (passing test i) (get_or before count 0) (drop (suc count) before) j count (sym far.counted)
+              ∙ sym (append_snoc (passing test i) j (drop (suc count) before))
+              ∙ ap₂ (λ (front : List ℕ) (c : ℕ). front ++ drop c before) (sym next) n;
+          counted = omega (arith, ap length next, length-append (passing test i) (j ∷ []), far.counted);
+          fewer = omega (arith, far.fewer, e);
+          few = l;
+          long = length-set list count j ∙ far.long;
+        }
+
+    -- j is not
+    pub front_but : is_free side arrows j ≡ false → FrontTo side arrows before list most count j
+    unfolding test
+    front_but t =
+        let next : passing test j ≡ passing test i = rw (← e) at (passing_but test i (rw (← e) t)) in
+        record {
+          front = far.front ∙ ap (λ (front : List ℕ). front ++ drop count before) (sym next);
+          counted = far.counted ∙ ap length (sym next);
+          fewer = omega (arith, far.fewer, e);
+          few = l;
+          long = far.long;
+        }
+
+    -- as its mark says
+    pub marked : {free : List Bool} → Marks side arrows (length arrows) free → get_or free j false ≡ is_free side arrows j
+    marked marks = marks.mark j (omega (arith, l, small)) ∙ ap (λ (row : List (List ℕ)). is_free side row j) (take-length arrows)
+
+  pub front_all : {list : List ℕ} {count : ℕ} (i : ℕ) → i ≡ most → FrontTo side arrows before list most count i → IsFront (free_of side arrows most) before list count
   unfolding free_of
-  front_all {list} {count} {j} l far =
-      let e : j ≡ most = omega (arith, l, far.inside) in record {
-        count = far.counted ∙ ap (λ (i : ℕ). length (passing (is_free side arrows) i)) e;
-        row = far.front ∙ ap (λ (i : ℕ). passing (is_free side arrows) i ++ drop count before) e;
-      }
+  front_all i e far = rw (← e) (record { count = far.counted; row = far.front })
 
 -- no second reply and no second row
 pub one_front : {wanted before after after' : List ℕ} {k k' : ℕ} → IsFront wanted before after k → IsFront wanted before after' k' → (k ≡ k') × (after ≡ after')

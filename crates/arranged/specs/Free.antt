@@ -21,10 +21,10 @@ free_from arrows n = free_of From arrows n
 abbrev pub free_to : List (List ℕ) → ℕ → List ℕ
 free_to arrows n = free_of To arrows n
 
--- a mark for each number up to 256: 1 where none of the first k arrows has it at this side, else 0
-pub record Marks (side : Side) (arrows : List (List ℕ)) (k : ℕ) (marks : List ℕ) : Type 0 where
-  pub long : length marks ≡ 258
-  pub mark : (v : ℕ) → v < 257 → get_or marks v 0 ≡ cond (is_free side (take k arrows) v) 1 0
+-- of each number up to 256 whether none of the first k arrows has it at this side
+pub record Marks (side : Side) (arrows : List (List ℕ)) (k : ℕ) (free : List Bool) : Type 0 where
+  pub long : length free ≡ 258
+  pub mark : (v : ℕ) → v < 257 → get_or free v false ≡ is_free side (take k arrows) v
 
 -- so many numbers in front of a lent row, and past them the old contents
 pub record IsFront (wanted before after : List ℕ) (k : ℕ) : Type 0 where

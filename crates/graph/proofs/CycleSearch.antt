@@ -1,19 +1,14 @@
 -- The search back along the arrows from a root: what holds all along it, at its start and at its end, and how each step keeps it. Assumes nothing.
-use mathlib.Core.Path.{◌≡◌, refl, sym, ap, ◌∙◌}
-use mathlib.Core.Logic.{◌≢◌}
-use mathlib.Core.List.{List}
-use Prim.Native.Nat.{ℕ, zero, suc, ◌+◌, ◌-◌, ◌*◌, ◌≤◌, ◌<◌}
-use native.Mathlib.Omega.{arith}
-use lib.ListN.{length, get_or, set, replicate, length-set, length-replicate}
-use lib.Seq.{get_or-set_same, get_or-set_other}
-use borrow.Author.Count.{below_more}
+use Rattle.std.proofs.Common.{◌≡◌, refl, sym, ap, ◌∙◌, ℕ, zero, suc, ◌+◌, ◌-◌, ◌≤◌, ◌<◌, Bool, true, false, cond, List, ◌∷◌, map, length, get_or, arith, ◌≢◌, set, replicate, length-set, get_or-set_same, get_or-set_other, below_more}
+use Rattle.std.proofs.lemmas.List.{get_or-map, map-set}
+use lib.ListN.{length-map, length-replicate}
 use Rattle.terms.specs.Graphs.{Among, from_of, to_of, Precedes, LeadsTo, step, more}
 use Rattle.theory.proofs.Stores.{read_set}
 use Rattle.theory.proofs.Tallies.{tally, tally_all}
 use Rattle.theory.proofs.Reaching.{leads_on}
 use Rattle.graph.specs.Chains.{Tidy, Last, Chains}
 use Rattle.graph.specs.Ordered.{StandsBelow}
-use Rattle.graph.proofs.Chained.{Along, Looks, along_begin, along_next, next_less, passed_now}
+use Rattle.graph.proofs.Chained.{Along, Looks, along_begin, along_next, passed_now}
 use Rattle.graph.proofs.Marks.{unplaced, unplaced_is, first_mark, kept, fewer_unplaced}
 use Rattle.graph.proofs.Walk.{Served}
 
@@ -39,16 +34,23 @@ module _ (n : ℕ) (arrows : List (List ℕ)) (root : ℕ) where
     pub served : Served n arrows unmet (turn root queue done) c
     pub before : (i : ℕ) → i < done → Served n arrows unmet (turn root queue i) 0
 
--- what is left to do
-unfoldable pub left : ℕ → ℕ → ℕ → ℕ
-left n done c = 2049 * (n - done) + c
+abbrev as_number : Bool → ℕ
+as_number b = cond b 0 1
+
+-- the flags of those that were met, as numbers: 0 where it was
+abbrev pub unmet_of : List Bool → List ℕ
+unmet_of met = map as_number met
+
+none_met : (n : ℕ) → unmet_of (replicate n false) ≡ replicate n 1
+none_met zero = refl
+none_met (suc n) = ap (λ (l : List ℕ). 1 ∷ l) (none_met n)
 
 module _ {n : ℕ} {arrows : List (List ℕ)} {root : ℕ} {first next : List ℕ} where
   -- ---- none was met
   pub search_start : {queue : List ℕ} → Tidy n arrows → Among 1 n root → Chains (to_of arrows) first next (length arrows) → length queue ≡ 256
-      → Search n arrows root first next (replicate 257 1) queue 0 0 (get_or first root 0)
+      → Search n arrows root first next (unmet_of (replicate 257 false)) queue 0 0 (get_or first root 0)
   unfolding turn
-  search_start tidy is chains lq = record {
+  search_start tidy is chains lq = rw (none_met 257) (record {
     tidy = tidy;
     chains = chains;
     long_unmet = length-replicate {A = ℕ} 257 1;
@@ -61,7 +63,7 @@ module _ {n : ℕ} {arrows : List (List ℕ)} {root : ℕ} {first next : List �
     along = along_begin begins;
     served = λ k l e b. absurd (begins.gap k b l e);
     before = λ i l. absurd (omega (arith, l));
-  }
+  })
     where
       mark : (v : ℕ) → Among 1 n v → ◌≡◌ {A = ℕ} (get_or (replicate 257 1) v 0) 1
       mark v t = first_mark tidy.subtasks t
@@ -84,30 +86,22 @@ module _ {n : ℕ} {arrows : List (List ℕ)} {root : ℕ} {first next : List �
       pub search_back : p ≡ root → LeadsTo arrows root root
       search_back e = rw e at leads
 
-      less : left n done (get_or next (c - 1) 0) < left n done c
-      unfolding left
-      less = omega (arith, next_less s.chains at)
-
       -- p was met before
-      pub search_skip : get_or unmet p 0 ≡ 0
-          → Search n arrows root first next unmet queue met done (get_or next (c - 1) 0) × (left n done (get_or next (c - 1) 0) < left n done c)
-      search_skip z = (
-        record {
-          tidy = s.tidy;
-          chains = s.chains;
-          long_unmet = s.long_unmet;
-          long_queue = s.long_queue;
-          count = s.count;
-          behind = s.behind;
-          root_unmet = s.root_unmet;
-          queued = s.queued;
-          there = s.there;
-          along = along_next s.chains at;
-          served = λ k l e b. passed_now s.chains at k b e (s.served k l e) (λ _ q. ap (λ (y : ℕ). get_or unmet y 0) q ∙ z);
-          before = s.before;
-        },
-        less,
-      )
+      skip : get_or unmet p 0 ≡ 0 → Search n arrows root first next unmet queue met done (get_or next (c - 1) 0)
+      skip z = record {
+        tidy = s.tidy;
+        chains = s.chains;
+        long_unmet = s.long_unmet;
+        long_queue = s.long_queue;
+        count = s.count;
+        behind = s.behind;
+        root_unmet = s.root_unmet;
+        queued = s.queued;
+        there = s.there;
+        along = along_next s.chains at;
+        served = λ k l e b. passed_now s.chains at k b e (s.served k l e) (λ _ q. ap (λ (y : ℕ). get_or unmet y 0) q ∙ z);
+        before = s.before;
+      }
 
       -- p is met now
       module _ (is_new : get_or unmet p 0 ≢ 0) where
@@ -134,32 +128,27 @@ module _ {n : ℕ} {arrows : List (List ℕ)} {root : ℕ} {first next : List �
         same_turn zero l = refl
         same_turn (suc i) l = old i (omega (arith, l))
 
-        pub search_meet : p ≢ root
-            → Search n arrows root first next (set unmet p 0) (set queue met p) (met + 1) done (get_or next (c - 1) 0)
-            × (left n done (get_or next (c - 1) 0) < left n done c)
-        search_meet other = (
-          record {
-            tidy = s.tidy;
-            chains = s.chains;
-            long_unmet = length-set unmet p 0 ∙ s.long_unmet;
-            long_queue = length-set queue met p ∙ s.long_queue;
-            count = omega (arith, s.count, fewer);
-            behind = omega (arith, s.behind);
-            root_unmet = read_set (λ x. x ≢ 0) unmet p 0 root inside (λ q. absurd (other (sym q))) (λ _. s.root_unmet);
-            queued = below_more (λ i. Among 1 n (get_or (set queue met p) i 0) × LeadsTo arrows (get_or (set queue met p) i 0) root) met
-                (λ i b. rw (old i b) (s.queued i b))
-                (rw newest (at.from_is, leads));
-            there = λ v t. read_set (λ x. x ≡ 0 → StandsBelow (set queue met p) (met + 1) v) unmet p 0 v inside
-                (λ q _. record { place = met; below = omega arith; is = newest ∙ sym q })
-                (λ _ z. let w = s.there v t z in record { place = w.place; below = omega (arith, w.below); is = old w.place w.below ∙ w.is });
-            along = rw (same_turn done s.behind) (along_next s.chains at);
-            served = rw (same_turn done s.behind)
-                (λ k l e b. passed_now s.chains at k b e (λ d. still _ (s.served k l e d))
-                (λ _ q. ap (λ (y : ℕ). get_or (set unmet p 0) y 0) q ∙ get_or-set_same unmet p 0 0 inside));
-            before = λ i b. rw (same_turn i (omega (arith, b, s.behind))) (λ k l e h. still _ (s.before i b k l e h));
-          },
-          less,
-        )
+        meet : p ≢ root → Search n arrows root first next (set unmet p 0) (set queue met p) (met + 1) done (get_or next (c - 1) 0)
+        meet other = record {
+          tidy = s.tidy;
+          chains = s.chains;
+          long_unmet = length-set unmet p 0 ∙ s.long_unmet;
+          long_queue = length-set queue met p ∙ s.long_queue;
+          count = omega (arith, s.count, fewer);
+          behind = omega (arith, s.behind);
+          root_unmet = read_set (λ x. x ≢ 0) unmet p 0 root inside (λ q. absurd (other (sym q))) (λ _. s.root_unmet);
+          queued = below_more (λ i. Among 1 n (get_or (set queue met p) i 0) × LeadsTo arrows (get_or (set queue met p) i 0) root) met
+              (λ i b. rw (old i b) (s.queued i b))
+              (rw newest (at.from_is, leads));
+          there = λ v t. read_set (λ x. x ≡ 0 → StandsBelow (set queue met p) (met + 1) v) unmet p 0 v inside
+              (λ q _. record { place = met; below = omega arith; is = newest ∙ sym q })
+              (λ _ z. let w = s.there v t z in record { place = w.place; below = omega (arith, w.below); is = old w.place w.below ∙ w.is });
+          along = rw (same_turn done s.behind) (along_next s.chains at);
+          served = rw (same_turn done s.behind)
+              (λ k l e b. passed_now s.chains at k b e (λ d. still _ (s.served k l e d))
+              (λ _ q. ap (λ (y : ℕ). get_or (set unmet p 0) y 0) q ∙ get_or-set_same unmet p 0 0 inside));
+          before = λ i b. rw (same_turn i (omega (arith, b, s.behind))) (λ k l e h. still _ (s.before i b k l e h));
+        }
 
     -- ---- the chain is at its end
     module _ (ec : c ≡ 0) where
@@ -181,25 +170,24 @@ module _ {n : ℕ} {arrows : List (List ℕ)} {root : ℕ} {first next : List �
         begins : Last (to_of arrows) u (length arrows) (get_or first u 0)
         begins = s.chains.start u next_small.1
 
-        pub search_next : Search n arrows root first next unmet queue met (done + 1) (get_or first u 0) × (left n (done + 1) (get_or first u 0) < left n done c)
-        unfolding left
-        search_next = (
-          record {
-            tidy = s.tidy;
-            chains = s.chains;
-            long_unmet = s.long_unmet;
-            long_queue = s.long_queue;
-            count = s.count;
-            behind = omega (arith, nd, s.behind);
-            root_unmet = s.root_unmet;
-            queued = s.queued;
-            there = s.there;
-            along = rw next_turn (along_begin begins);
-            served = rw next_turn (λ k l e b. absurd (begins.gap k b l e));
-            before = all_served;
-          },
-          omega (arith, begins.within, s.tidy.few, ec, nd, s.behind, s.count),
-        )
+        pub turns_left : done < n
+        turns_left = omega (arith, nd, s.behind, s.count)
+
+        pub search_next : Search n arrows root first next unmet queue met (done + 1) (get_or first u 0)
+        search_next = record {
+          tidy = s.tidy;
+          chains = s.chains;
+          long_unmet = s.long_unmet;
+          long_queue = s.long_queue;
+          count = s.count;
+          behind = omega (arith, nd, s.behind);
+          root_unmet = s.root_unmet;
+          queued = s.queued;
+          there = s.there;
+          along = rw next_turn (along_begin begins);
+          served = rw next_turn (λ k l e b. absurd (begins.gap k b l e));
+          before = all_served;
+        }
 
       -- there is none: what leads to the root was met, and the root was not
       pub search_end : done ≡ met → ¬ LeadsTo arrows root root
@@ -212,3 +200,26 @@ module _ {n : ℕ} {arrows : List (List ℕ)} {root : ℕ} {first next : List �
               let z = all_served t (omega (arith, b)) a.place a.inside (a.arrives ∙ sym e) (omega arith) in
               let w = s.there (from_of arrows a.place) (s.tidy.from_in a.place a.inside) z in
               all l (suc w.place) (omega (arith, w.below, ed)) (w.is ∙ a.begins)
+
+-- ---- the same by the flags
+
+module _ {n : ℕ} {arrows : List (List ℕ)} {root : ℕ} {first next : List ℕ} (met : List Bool) {queue : List ℕ} {queued done c : ℕ}
+    (s : Search n arrows root first next (unmet_of met) queue queued done c) {p : ℕ} (at : Looks n arrows (turn root queue done) c p) where
+  inside_met : p < length met
+  inside_met = omega (arith, at.from_small, s.long_unmet, length-map met as_number)
+
+  mark : (b : Bool) → get_or met p false ≡ b → get_or (unmet_of met) p 0 ≡ cond b 0 1
+  mark b e = get_or-map as_number met p false 0 inside_met ∙ ap as_number e
+
+  pub search_skip : get_or met p false ≡ true → Search n arrows root first next (unmet_of met) queue queued done (get_or next (c - 1) 0)
+  search_skip e = skip s at (mark true e)
+
+  module _ (e : get_or met p false ≡ false) where
+    is_new : get_or (unmet_of met) p 0 ≢ 0
+    is_new z = omega (arith, z, mark false e)
+
+    pub queue_room : queued < 256
+    queue_room = room_for s at is_new
+
+    pub search_meet : p ≢ root → Search n arrows root first next (unmet_of (set met p true)) (set queue queued p) (queued + 1) done (get_or next (c - 1) 0)
+    search_meet other = rw (map-set as_number met p true) (meet s at is_new other)

@@ -1,6 +1,6 @@
 // The arrows as chains, one for each subtask.
 ghost use Rattle.std.specs.Prelude.{◌≡◌, ◌-◌, ◌≤◌, ◌<◌, length, get_or};
-ghost use Rattle.terms.specs.Graphs.{from_of};
+ghost use Rattle.terms.specs.Graphs.{from_of, to_of};
 ghost use Rattle.graph.specs.Chains.{Tidy};
 ghost use Rattle.graph.specs.Links.{IsEmpty, Linked};
 
@@ -74,5 +74,14 @@ impl<'a> Chained<'a> {
     {
         let [from, _] = self.arrows[c - 1];
         Subtask(usize::from(from))
+    }
+
+    // The subtask to which it goes.
+    pub fn sink(&self, c: usize) -> Subtask
+        requires { (1 ≤ c) × (c ≤ length self.now.arrows.now) }
+        ensures { (result.0 ≡ to_of self.now.arrows.now (c - 1)) × (result.0 < 65536) }
+    {
+        let [_, to] = self.arrows[c - 1];
+        Subtask(usize::from(to))
     }
 }

@@ -8,38 +8,36 @@ use crate::chains::Chained;
 use terms::Subtask;
 
 // Whether the arrows lead from a subtask back to it. It goes back along the arrows from there: each subtask that is met stands in the queue
-// once, and c is the position of the arrow that is looked at. `unmet` is 0 where a subtask was met.
+// once, and has its turn at v. c is the position of the arrow that is looked at.
 fn leads_back(graph: &Chained<'_>, root: Subtask) -> bool
     requires { Among 1 graph.now.n root.0 }
     ensures { Says (LeadsTo graph.now.arrows.now root.0 root.0) result }
 {
-    let mut unmet = [1u8; 257];
+    let mut met = [false; 257];
     let mut queue = [0u16; 256];
-    let mut met: usize = 0;
+    let mut queued: usize = 0;
     let mut done: usize = 0;
-    let mut c = graph.begin(root);
+    let mut v = root.0;
     loop {
-        if c != 0 {
+        let mut c = graph.begin(Subtask(v));
+        while c != 0 {
             let from = graph.source(c);
             let p = from.0;
-            let m = unmet[p];
             if p == root.0 {
                 return true;
-            } else if m == 0 {
-                c = graph.after(c);
-            } else {
-                unmet[p] = 0;
-                queue[met] = p as u16;
-                met += 1;
-                c = graph.after(c);
             }
-        } else if done == met {
-            return false;
-        } else {
-            let u = usize::from(queue[done]);
-            done += 1;
-            c = graph.begin(Subtask(u));
+            if !met[p] {
+                met[p] = true;
+                queue[queued] = p as u16;
+                queued += 1;
+            }
+            c = graph.after(c);
         }
+        if done == queued {
+            return false;
+        }
+        v = usize::from(queue[done]);
+        done += 1;
     }
 }
 

@@ -3,7 +3,6 @@ ghost use Rattle.std.specs.Prelude.{◌≡◌, length};
 ghost use Rattle.graph.specs.Ordered.{Orders};
 
 use crate::chains::Chained;
-use inputs::to_at;
 use terms::Subtask;
 
 // Whether the subtasks can stand in an order, predecessors first, which is left in `order`; else the arrows close a cycle, and the answer
@@ -50,7 +49,7 @@ pub fn order_subtasks(graph: &Chained<'_>, order: &mut [u16; 256]) -> Result<(),
                 }
                 depth -= 1;
                 let a = usize::from(stack[depth]);
-                let to = to_at(graph.arrows, a - 1);
+                let to = graph.sink(a);
                 u = to.0;
                 c = graph.after(a);
             }

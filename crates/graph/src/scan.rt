@@ -57,10 +57,7 @@ pub fn first_loop(arrows: &[[u16; 2]]) -> Option<usize>
 fn earlier(found: Option<usize>, place: usize) -> usize
     ensures { result ≡ earlier_of found place }
 {
-    match found {
-        Some(first) => first.min(place),
-        None => place,
-    }
+    found.map_or(place, |first| first.min(place))
 }
 
 // 6: the first arrow that is the same as one before it. Along the chain of arrows into v, the latest first, met[u] is the position of the

@@ -21,9 +21,8 @@ fn latest(graph: &Chained<'_>, v: Subtask, finish: &[u32; 257]) -> u32
     requires { v.0 < 257 }
     ensures { Latest graph.now.arrows.now finish.now v.0 0 result }
 {
-    let to = v.0;
     let mut most: u32 = 0;
-    let mut c = graph.begin(Subtask(to));
+    let mut c = graph.begin(v);
     while c != 0 {
         let from = graph.source(c);
         let p = from.0;

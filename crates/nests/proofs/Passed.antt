@@ -1,19 +1,11 @@
 -- How an opener's members are passed one by one, along either way. Assumes nothing.
-use Rattle.std.proofs.Common.{◌≡◌, refl, sym, ◌∙◌, ℕ, ◌+◌, ◌-◌, ◌≤◌, ◌<◌, List, length, arith}
-use Rattle.std.specs.Prelude.{Some, None}
-use mathlib.Core.Logic.{⊎_elim}
+use Rattle.std.proofs.Common.{◌≡◌, sym, ◌∙◌, ℕ, ◌+◌, ◌-◌, ◌≤◌, ◌<◌, List, length, arith, Some, None, ⊎_elim}
 use Rattle.terms.specs.Joins.{Way}
 use Rattle.terms.specs.Nests.{other, together, kind_of}
 use Rattle.theory.proofs.OneNest.{same_opener}
-use Rattle.nests.specs.declared.walk.Kind.{Kind}
-use Rattle.nests.specs.declared.walk.Kind.TheVariants.{Sequence, Group}
-use Rattle.nests.specs.Walks.{way_of, other_kind, entries_from, Begins, BeginsOpener, GraphAt, OpenerAt}
+use Rattle.nests.specs.Walks.{entries_from, Begins, BeginsOpener, GraphAt, OpenerAt}
 use Rattle.nests.proofs.Entries.{entries_length}
 use Rattle.nests.proofs.Members.{begins_none, begins_more, begins_split, one_begins, begins_small, member_either}
-
-pub other_way : (kind : Kind) → way_of (other_kind kind) ≡ other (way_of kind)
-other_way Sequence = refl
-other_way Group = refl
 
 -- no member stands at a place
 abbrev pub NoMember : Way → ℕ → List (List ℕ) → ℕ → Type 0

@@ -1,12 +1,10 @@
 -- What the entries from a place of a nest's row on begin with, and what a walk over them answers.
 use Rattle.std.specs.Prelude.{◌≡◌, List, [], ◌∷◌, ◌++◌, ℕ, ◌+◌, ◌-◌, ◌≤◌, ◌<◌, length, drop, Option, Some, None}
 use Rattle.terms.specs.Graphs.{Among}
-use Rattle.terms.specs.Joins.{Way, end_to_end, side_by_side}
+use Rattle.terms.specs.Joins.{Way}
 use Rattle.terms.specs.Nests.{Members, count, depth, work_of, path_of, kind_of, graph_entry, written, InRange, Ruled, numbers_of}
 use Rattle.terms.specs.declared.Weights.{Weights}
 use Rattle.nests.specs.declared.walk.Walk.{Walk}
-use Rattle.nests.specs.declared.walk.Kind.{Kind}
-use Rattle.nests.specs.declared.walk.Kind.TheVariants.{Sequence, Group}
 
 -- the entries from a place on, by their numbers
 unfoldable pub entries_from : List (List ℕ) → ℕ → List (List ℕ)
@@ -63,13 +61,3 @@ GraphAt row at walk = Tells row (BeginsGraph (entries_from row at)) walk
 
 abbrev pub OpenerAt : Way → ℕ → List (List ℕ) → ℕ → Option Walk → Type 0
 OpenerAt way d row at walk = Tells row (Opens way d (entries_from row at)) walk
-
--- ---- the two kinds of openers
-
-abbrev pub way_of : Kind → Way
-way_of Sequence = end_to_end
-way_of Group = side_by_side
-
-abbrev pub other_kind : Kind → Kind
-other_kind Sequence = Group
-other_kind Group = Sequence

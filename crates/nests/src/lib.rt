@@ -5,7 +5,7 @@ mod walk;
 
 ghost use Rattle.terms.specs.Replies.{IsNestMeasure};
 
-use crate::walk::{Kind, opener_at};
+use crate::walk::sequence_at;
 use terms::{Refusal, Weights};
 
 // C and P of a nest, out of the row that it is written as.
@@ -15,7 +15,7 @@ pub fn figures_of(row: &[[u32; 3]]) -> Result<Weights, Refusal>
     if 256 < row.len() {
         return Err(Refusal::Nest);
     }
-    let Some(nest) = opener_at(row, 0, Kind::Sequence, 8) else {
+    let Some(nest) = sequence_at(row, 0, 8) else {
         return Err(Refusal::Nest);
     };
     if nest.next < row.len() {

@@ -1,7 +1,8 @@
-// The walk over a nest's row: an opener is gone over member by member, and so is each member that is an opener of the other kind.
-ghost use Rattle.std.specs.Prelude.{◌≡◌, ◌≤◌, ◌<◌, length};
-ghost use Rattle.terms.specs.Nests.{kind_of, together};
-ghost use Rattle.nests.specs.Walks.{way_of, other_kind, CountsAt, GraphAt, OpenerAt};
+// The walk over a nest's row: an opener is gone over member by member, and so is each member that is an opener of the other kind. There is
+// a function for each kind: one for both asks at every member which kind it is in, and takes 1.3 times as long (docs/DESIGN-PASS.md).
+ghost use Rattle.std.specs.Prelude.{◌≡◌, ◌+◌, ◌≤◌, ◌<◌, max, length};
+ghost use Rattle.terms.specs.Joins.{end_to_end, side_by_side};
+ghost use Rattle.nests.specs.Walks.{CountsAt, GraphAt, OpenerAt};
 
 // How far a walk came, and C and P of what it went over.
 #[derive(Clone, Copy)]
@@ -11,55 +12,50 @@ pub struct Walk {
     pub p: u32,
 }
 
-// A sequence has its members end to end, a group side by side.
-#[derive(Clone, Copy)]
-pub enum Kind {
-    Sequence,
-    Group,
-}
-
-impl Kind {
-    // The number that an opener of this kind has in the row.
-    fn number(self) -> u32
-        ensures { result ≡ kind_of (way_of self) }
+impl Walk {
+    // And over a further member of a sequence.
+    fn then(self, member: Walk) -> Walk
+        requires { (self.c + member.c < 4294967296) × (self.p + member.p < 4294967296) }
+        ensures { result ≡ record { next = member.next; c = self.c + member.c; p = self.p + member.p } }
     {
-        match self {
-            Kind::Sequence => 1,
-            Kind::Group => 2,
+        Walk {
+            next: member.next,
+            c: self.c + member.c,
+            p: self.p + member.p,
         }
     }
 
-    fn other(self) -> Kind
-        ensures { result ≡ other_kind self }
+    // And over a further member of a group.
+    fn beside(self, member: Walk) -> Walk
+        requires { self.c + member.c < 4294967296 }
+        ensures { result ≡ record { next = member.next; c = self.c + member.c; p = max self.p member.p } }
     {
-        match self {
-            Kind::Sequence => Kind::Group,
-            Kind::Group => Kind::Sequence,
-        }
-    }
-
-    // P of what comes first and of what comes then.
-    fn together(self, p: u32, q: u32) -> u32
-        requires { together (way_of self) p q < 4294967296 }
-        ensures { result ≡ together (way_of self) p q }
-    {
-        match self {
-            Kind::Sequence => p + q,
-            Kind::Group => p.max(q),
+        Walk {
+            next: member.next,
+            c: self.c + member.c,
+            p: self.p.max(member.p),
         }
     }
 }
 
 // How many members the opener at a place has, 1 to 16, where one of this kind stands there.
-fn members_at(row: &[[u32; 3]], at: usize, kind: Kind) -> Option<u32>
-    ensures { CountsAt row.now at (kind_of (way_of kind)) result }
+fn members_at(row: &[[u32; 3]], at: usize, kind: u32) -> Option<u32>
+    ensures { CountsAt row.now at kind result }
 {
     let &[number, members, last] = row.get(at)?;
-    if number == kind.number() && (1..=16).contains(&members) && last == 0 {
-        Some(members)
-    } else {
-        None
+    if number != kind {
+        return None;
     }
+    if last != 0 {
+        return None;
+    }
+    if members < 1 {
+        return None;
+    }
+    if 16 < members {
+        return None;
+    }
+    Some(members)
 }
 
 // The graph at a place, where one stands there: P from 1 to C, C at most 16,776,960.
@@ -67,32 +63,61 @@ fn graph_at(row: &[[u32; 3]], at: usize) -> Option<Walk>
     ensures { GraphAt row.now at result }
 {
     let &[number, c, p] = row.get(at)?;
-    if number == 0 && (1..=c).contains(&p) && c <= 16776960 {
-        Some(Walk { next: at + 1, c, p })
-    } else {
-        None
+    if number != 0 {
+        return None;
     }
+    if p < 1 {
+        return None;
+    }
+    if c < p {
+        return None;
+    }
+    if 16776960 < c {
+        return None;
+    }
+    Some(Walk { next: at + 1, c, p })
 }
 
-// The opener of this kind at a place, at most so many openers deep, where one stands there: its members are graphs and openers of the
-// other kind.
-pub fn opener_at(row: &[[u32; 3]], at: usize, kind: Kind, depth: usize) -> Option<Walk>
+// The sequence that opens at a place, at most so many openers deep, where one stands there: its members are graphs and groups.
+#[cycle(group_sequence)]
+pub fn sequence_at(row: &[[u32; 3]], at: usize, depth: usize) -> Option<Walk>
     requires { length row.now ≤ 256 }
-    ensures { OpenerAt (way_of kind) depth row.now at result }
+    ensures { OpenerAt end_to_end depth row.now at result }
 {
-    let members = members_at(row, at, kind)?;
+    let members = members_at(row, at, 1)?;
     let deeper = depth.checked_sub(1)?;
-    let mut next = at + 1;
-    let mut c: u32 = 0;
-    let mut p: u32 = 0;
+    let mut walk = Walk {
+        next: at + 1,
+        c: 0,
+        p: 0,
+    };
     for _ in 0..members {
-        let member = match graph_at(row, next) {
-            Some(graph) => graph,
-            None => opener_at(row, next, kind.other(), deeper)?,
+        walk = match graph_at(row, walk.next) {
+            Some(graph) => walk.then(graph),
+            None => walk.then(group_at(row, walk.next, deeper)?),
         };
-        next = member.next;
-        c += member.c;
-        p = kind.together(p, member.p);
     }
-    Some(Walk { next, c, p })
+    Some(walk)
+}
+
+// The group that opens at a place: its members are graphs and sequences.
+#[cycle(group_sequence)]
+fn group_at(row: &[[u32; 3]], at: usize, depth: usize) -> Option<Walk>
+    requires { length row.now ≤ 256 }
+    ensures { OpenerAt side_by_side depth row.now at result }
+{
+    let members = members_at(row, at, 2)?;
+    let deeper = depth.checked_sub(1)?;
+    let mut walk = Walk {
+        next: at + 1,
+        c: 0,
+        p: 0,
+    };
+    for _ in 0..members {
+        walk = match graph_at(row, walk.next) {
+            Some(graph) => walk.beside(graph),
+            None => walk.beside(sequence_at(row, walk.next, deeper)?),
+        };
+    }
+    Some(walk)
 }

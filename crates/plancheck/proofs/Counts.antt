@@ -1,5 +1,5 @@
 -- How many run at an instant; the earliest instant at which one idles. Assumes nothing.
-use Rattle.std.proofs.Common.{◌≡◌, refl, sym, ap, ◌∙◌, List, [], ◌∷◌, ℕ, suc, ◌+◌, ◌-◌, ◌≤◌, ◌<◌, Option, None, Some, cond, length, get_or, arith, add-one}
+use Rattle.std.proofs.Common.{◌≡◌, refl, sym, ap, ◌∙◌, List, [], ◌∷◌, ℕ, suc, ◌+◌, ◌-◌, ◌≤◌, ◌<◌, Option, None, Some, Bool, true, false, cond, length, get_or, arith, add-one}
 use Rattle.std.proofs.Math.Decide.{dec_le, dec_lt, ℕ_discrete}
 use Rattle.std.proofs.Math.Logic.{by_cases}
 use Rattle.std.proofs.Math.Nat.{suc_inj}
@@ -17,7 +17,7 @@ use Rattle.theory.proofs.Running.{dec_runs, runs, running}
 use Rattle.plancheck.specs.Scans.{runs_in, running_among, SomeIdles, Earliest}
 
 -- 1 where a subtask of this time and entry runs at t, else 0
-abbrev one : ℕ → ℕ → Entry → ℕ
+abbrev pub one : ℕ → ℕ → Entry → ℕ
 one t time entry = cond (runs_in t time entry) 1 0
 
 one_yes : (t w : ℕ) (x : Entry) → x.start ≤ t → t < x.start + w → one t w x ≡ 1
@@ -26,13 +26,26 @@ one_yes t w x l m = grind (arith, nat_tests)
 one_no : (t w : ℕ) (x : Entry) → ¬ ((x.start ≤ t) × (t < x.start + w)) → one t w x ≡ 0
 one_no t w x h = by_cases (dec_le x.start t) (λ l. by_cases (dec_lt t (x.start + w)) (λ m. absurd (h (l, m))) (λ m. grind (arith, nat_tests))) (λ l. grind (arith, nat_tests))
 
-counted : (t : ℕ) (times : List ℕ) (plan : List Entry) → length plan ≡ length times
+pub counted : (t : ℕ) (times : List ℕ) (plan : List Entry) → length plan ≡ length times
     → running_among t times plan ≡ sum (length times) (λ i. one t (get_or times i 0) (get_or plan i not_placed))
 unfolding sum
 counted t [] plan e = refl
 counted t (w ∷ times) [] e = absurd (omega arith)
 counted t (w ∷ times) (x ∷ plan) e =
     sum_by-cons (λ (p : ℕ × Entry). one t p.0 p.1) (w, x) (zip times plan) ∙ ap (λ (k : ℕ). one t w x + k) (counted t times plan (suc_inj e)) ∙ sym (sum_first (length times) (λ i. one t (get_or (w ∷ times) i 0) (get_or (x ∷ plan) i not_placed)))
+
+-- as many, and one more where the next one runs
+pub one_more : (t : ℕ) (times : List ℕ) (plan : List Entry) (k : ℕ) {count b : ℕ} → count ≡ sum k (λ i. one t (get_or times i 0) (get_or plan i not_placed))
+    → b ≡ one t (get_or times k 0) (get_or plan k not_placed) → count + b ≡ sum (k + 1) (λ i. one t (get_or times i 0) (get_or plan i not_placed))
+unfolding sum
+one_more t times plan k so_far this = rw (so_far, this, add-one) refl
+
+pub one_small : (t time : ℕ) (entry : Entry) → one t time entry ≤ 1
+one_small t time entry = go (runs_in t time entry)
+  where
+    go : (b : Bool) → cond b 1 0 ≤ 1
+    go true = omega arith
+    go false = omega arith
 
 -- where every subtask is placed, those are the ones that run
 pub among_running : (times : List ℕ) (plan : List Entry) (t : ℕ) → length plan ≡ length times → ((j : ℕ) → IsSubtask times j → Placed plan j)

@@ -50,22 +50,24 @@ impl Placed<'_> {
         None
     }
 
-    // How many subtasks run at t.
-    fn running(&self, t: u32) -> usize
+    // How many subtasks run at t. No test is left out, so that many are looked at together.
+    fn running(&self, t: u32) -> u32
         ensures { result ≡ running_among t self.now.times.now self.now.plan.now }
     {
-        self.times
-            .iter()
-            .zip(self.plan)
-            .filter(|(time, entry)| entry.start <= t && t - entry.start < u32::from(**time))
-            .count()
+        let mut count: u32 = 0;
+        for (place, entry) in self.plan.iter().enumerate() {
+            let time = u32::from(self.times[place]);
+            let runs = (entry.start <= t) & (t.saturating_sub(entry.start) < time);
+            count += u32::from(runs);
+        }
+        count
     }
 
     // Whether a subtask is ready at t although a processor is free.
     fn some_idles(&self, t: u32) -> bool
         ensures { Says (SomeIdles self.now.times.now self.now.plan.now self.now.ready.now self.now.m t) result }
     {
-        if self.m as usize <= self.running(t) {
+        if self.m <= self.running(t) {
             return false;
         }
         for (place, entry) in self.plan.iter().enumerate() {

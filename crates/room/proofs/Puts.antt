@@ -1,11 +1,7 @@
 -- Bytes in a room, one behind the other; the room that is left; what they leave; and no second reply. Assumes nothing.
-use mathlib.Core.Path.{◌≡◌, refl, sym, ap, ap₂, ◌∙◌, subst}
+use Rattle.std.proofs.Common.{◌≡◌, refl, sym, ap, ap₂, ◌∙◌, subst, List, [], ◌++◌, ℕ, ◌+◌, ◌<◌, arith, length, take, drop, length-append}
 use mathlib.Core.Logic.{by_cases}
-use mathlib.Core.List.{List, [], ◌++◌}
-use Prim.Native.Nat.{ℕ, ◌+◌, ◌<◌}
-use native.Mathlib.Omega.{arith}
 use native.Mathlib.Decide.{dec_le}
-use lib.ListN.{length, take, drop, length-append}
 use lib.Seq.{sets, sets-eq, length-sets}
 use Rattle.theory.proofs.Stores.{sets_append}
 use Rattle.room.specs.Puts.{HasRoom, Stands, Put}

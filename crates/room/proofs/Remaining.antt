@@ -1,8 +1,5 @@
 -- Bytes put piece by piece into a room that has room for all of them: whoever puts those that remain has put all. Assumes nothing.
-use mathlib.Core.Path.{◌≡◌, refl, ◌∙◌, subst}
-use mathlib.Core.List.{List, [], ◌++◌}
-use Prim.Native.Nat.{ℕ}
-use lib.ListN.{length}
+use Rattle.std.proofs.Common.{◌≡◌, refl, ◌∙◌, subst, List, [], ◌++◌, ℕ, length}
 use Rattle.room.specs.Puts.{HasRoom, Stands, Put}
 use Rattle.room.proofs.Puts.{stands_none, stands_then, stands_length, room_first, room_rest}
 

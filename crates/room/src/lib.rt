@@ -1,9 +1,9 @@
-// Bytes and numbers into a lent room, from a place on. What there is no room for is not put, and the place stays where it was.
+// Bytes and numbers into a lent room, from a place on.
 #![tactic(auto)]
 
 ghost use Rattle.std.specs.Prelude.{◌≡◌, [], ◌∷◌, ◌≤◌, length};
 ghost use Rattle.terms.specs.Writings.{decimal};
-ghost use Rattle.room.specs.Puts.{Put};
+ghost use Rattle.room.specs.Puts.{Puts};
 
 // How many digits a number has.
 pub fn number_size(x: u32) -> usize
@@ -23,30 +23,40 @@ pub fn number_size(x: u32) -> usize
     }
 }
 
-// One byte.
-pub fn put_byte(text: &mut [u8], at: usize, b: u8) -> usize
-    ensures { Put text.old at (b ∷ []) text.new result }
-{
-    if text.len() <= at {
-        return at;
-    }
-    text[at] = b;
-    at + 1
+// A place in a lent room, where the next thing is put. What there is no room for is not put, and the place stays where it was.
+#[derive(Drop)]
+pub struct Pen<'a> {
+    pub text: &'a mut [u8],
+    pub at: usize,
 }
 
-// A number, without leading zeros: its digits from the last to the first.
-pub fn put_number(text: &mut [u8], at: usize, x: u32) -> usize
-    ensures { Put text.old at (decimal x) text.new result }
-{
-    let size = number_size(x);
-    if text.len().saturating_sub(at) < size {
-        return at;
+impl Pen<'_> {
+    // One byte.
+    pub fn put_byte(&mut self, b: u8)
+        ensures { Puts self.old (b ∷ []) self.new }
+    {
+        if self.at < self.text.len() {
+            self.text[self.at] = b;
+            self.at += 1;
+        }
     }
-    let mut rest = x;
-    for i in (at + 1..at + size).rev() {
-        text[i] = b'0' + (rest % 10) as u8;
-        rest /= 10;
+
+    // A number, without leading zeros: its digits from the last to the first.
+    pub fn put_number(&mut self, x: u32)
+        ensures { Puts self.old (decimal x) self.new }
+    {
+        let size = number_size(x);
+        let at = self.at;
+        let text = &mut *self.text;
+        if text.len().saturating_sub(at) < size {
+            return;
+        }
+        let mut rest = x;
+        for i in (at + 1..at + size).rev() {
+            text[i] = b'0' + (rest % 10) as u8;
+            rest /= 10;
+        }
+        text[at] = b'0' + rest as u8;
+        self.at = at + size;
     }
-    text[at] = b'0' + rest as u8;
-    at + size
 }

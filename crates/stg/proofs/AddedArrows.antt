@@ -1,13 +1,7 @@
 -- One predecessor more, in a row of arrows. Assumes nothing.
-use mathlib.Core.Path.{◌≡◌, refl, sym, ap}
-use mathlib.Core.List.{List, [], ◌∷◌, ◌++◌, map}
-use mathlib.Core.Bool.{Bool, true, false, cond}
-use Prim.Native.Nat.{ℕ, ◌+◌, ◌≤◌}
-use native.Mathlib.Omega.{arith}
-use native.Mathlib.Nat.{add-zero}
-use borrow.Author.Tests.{eq-eqb, ne_eqb}
-use lib.Dec.{eqb}
-use lib.ListN.{length, set, length-append, length-map}
+use Rattle.std.proofs.Common.{◌≡◌, refl, sym, ap, List, [], ◌∷◌, ◌++◌, map, Bool, true, false, cond, ℕ, ◌+◌, ◌≤◌, arith, add-zero, eq-eqb, ne_eqb, eqb}
+use Rattle.std.proofs.Common.{length, set, length-append}
+use lib.ListN.{length-map}
 use lib.Seq.{sets, set_out}
 use Rattle.terms.specs.Readings.{arrows_into}
 use Rattle.theory.proofs.Stores.{sets_append}

@@ -1,9 +1,5 @@
 -- All lines of a text, in order. Assumes nothing.
-use mathlib.Core.Path.{◌≡◌, ◌∙◌, ap}
-use mathlib.Core.List.{List, []}
-use Prim.Native.Nat.{ℕ, ◌+◌}
-use native.Mathlib.Nat.{add-zero}
-use lib.ListN.{drop}
+use Rattle.std.proofs.Common.{◌≡◌, ◌∙◌, ap, List, [], ℕ, ◌+◌, add-zero, drop, Result, Ok, Err}
 use Rattle.terms.specs.Graphs.{Among}
 use Rattle.terms.specs.Texts.{lines}
 use Rattle.terms.specs.Readings.{Reading, refuse, graph, trailer, exit_line, task_lines, read_lines}
@@ -11,7 +7,6 @@ use Rattle.terms.specs.declared.Refusal.{Refusal}
 use Rattle.text.specs.Rest.{line, later}
 use Rattle.stg.specs.LinesRead.{outcome, FirstIs, Dummy, dummy, AllSubtasks, Opened, closed, Leaves}
 use Rattle.stg.proofs.OneLine.{entry_line_lem, exit_line_lem}
-use Rattle.std.specs.Prelude.{Result, Ok, Err}
 
 -- the first line and the entry dummy's
 module _ {text : List ℕ} {n e : ℕ} (f : FirstIs text n e) where
@@ -53,7 +48,8 @@ module _ (text : List ℕ) (ts : List ℕ) (ar : List (List ℕ)) (ts' : List �
     unfolding Leaves
     closing_refused refusal c = to_close (Err refusal) c
 
-    pub closing_sound : exit_line (n + 1) (lines (drop f text)) ≡ graph [] [] → Among 1 256 n
-        → Leaves ts ar (task_lines 1 n (lines (drop e text))) ts' ar' (Ok (record { subtasks = n; arrows = b }))
+    -- the lent row holds in the end what was put down
+    pub closing_sound : (row : List (List ℕ)) → row ≡ ar' → exit_line (n + 1) (lines (drop f text)) ≡ graph [] [] → Among 1 256 n
+        → Leaves ts ar (task_lines 1 n (lines (drop e text))) ts' row (Ok (record { subtasks = n; arrows = b }))
     unfolding Leaves
-    closing_sound c size = (to_close (Ok tt) c ∙ rw (add-zero n, add-zero b), size)
+    closing_sound row q c size = rw q (to_close (Ok tt) c ∙ rw (add-zero n, add-zero b), size)

@@ -1,14 +1,8 @@
 -- A graph whose arrows are held with clipped tails is answered by 2 to 7 as the graph itself. Assumes nothing.
-use mathlib.Core.Path.{◌≡◌, refl, sym}
-use mathlib.Core.Logic.{◌⊎◌, inl, inr, ⊎_elim}
-use mathlib.Core.List.{List, [], ◌∷◌, ◌++◌, map}
-use mathlib.Core.Bool.{Bool, true, false}
-use Prim.Native.Nat.{ℕ, zero, suc, ◌-◌, ◌≤◌, ◌<◌}
-use native.Mathlib.Omega.{arith}
-use borrow.Author.Tests.{le-leb, lt-leb, leb-true, leb-false}
-use lib.Dec.{leb}
-use lib.ListN.{length, get_or, take, length-map}
-use lib.Seq.{length-take-le}
+use Rattle.std.proofs.Common.{◌≡◌, refl, sym, ◌⊎◌, inl, inr, ⊎_elim, List, [], ◌∷◌, ◌++◌, map, Bool, true, false, ℕ, zero, suc, ◌-◌, ◌≤◌, ◌<◌, arith, le-leb}
+use Rattle.std.proofs.Common.{leb-true, leb-false, leb, length, get_or, take, Result, Ok, Err}
+use borrow.Author.Tests.{lt-leb}
+use lib.ListN.{length-map}
 use Rattle.terms.specs.Rows.{Smallest, IsAt, Accepted, RefusedBy}
 use Rattle.terms.specs.Graphs.{Among, IsSubtask, from_of, to_of}
 use Rattle.terms.specs.Refusals.{SomeArrow, NamesOutside, ArrowAt, count_rows, time_rows, subtask_rows, size_rows, arrow_rows, time_and_arrow_rows, graph_rows}
@@ -20,7 +14,6 @@ use Rattle.theory.proofs.Stops.{smallest_as}
 use Rattle.theory.proofs.Accepted.{read_refused, read_accepted}
 use Rattle.stg.specs.LinesRead.{clipped, hold}
 use Rattle.stg.specs.RowsRead.{AllPairs, ChecksRead}
-use Rattle.std.specs.Prelude.{Result, Ok, Err}
 use Rattle.terms.specs.declared.Refusal.TheVariants.{ArrowCount}
 
 from_held : (bs : List (List ℕ)) (i : ℕ) → i < length bs → from_of (map hold bs) i ≡ clipped (from_of bs i)
@@ -136,26 +129,23 @@ accepted_first_rows us bs x = (none_holds 3 (time_and_arrow_rows us bs) x, none_
 
 -- ---- the check of what was read
 
-module _ (times : List ℕ) (n : ℕ) (row : List (List ℕ)) (a : ℕ) (low : 1 ≤ n) (high : n ≤ 256) (fits : n ≤ length times) where
-  among : Among 1 256 (length (take n times))
-  among = let e = length-take-le n times fits in record { low = rw e low; high = rw e high }
-
+module _ (times : List ℕ) (row : List (List ℕ)) (a : ℕ) (among : Among 1 256 (length times)) where
   -- where 1 does not hold, 1 to 7 answer as 2 to 7 do
-  as_read : (arrows : List (List ℕ)) (r : Result (Unit {0}) Refusal) → IsCheck (graph_rows (take n times) arrows) r → IsCheck (time_and_arrow_rows (take n times) arrows) r
+  as_read : (arrows : List (List ℕ)) (r : Result (Unit {0}) Refusal) → IsCheck (graph_rows times arrows) r → IsCheck (time_and_arrow_rows times arrows) r
   unfolding IsCheck
-  as_read arrows (Ok tt) x = read_accepted (take n times) arrows x
-  as_read arrows (Err r) x = read_refused (take n times) arrows r among x
+  as_read arrows (Ok tt) x = read_accepted times arrows x
+  as_read arrows (Err r) x = read_refused times arrows r among x
 
-  pub checks_few : (r : Result (Unit {0}) Refusal) → a ≤ 2048 → IsCheck (graph_rows (take n times) (take a row)) r → ChecksRead times n row a r
-  checks_few r m k bs s = checked_held (take n times) among.high bs s.pairs r (rw (s.first m) at (as_read (take a row) r k))
+  pub checks_few : (r : Result (Unit {0}) Refusal) → a ≤ 2048 → IsCheck (graph_rows times (take a row)) r → ChecksRead times row a r
+  checks_few r m k bs s = checked_held times among.high bs s.pairs r (rw (s.first m) at (as_read (take a row) r k))
 
   -- more than 2,048 arrows: 2, and else 3
-  pub checks_three : 2048 < a → Accepted (subtask_rows (take n times)) → ChecksRead times n row a (Err ArrowCount)
+  pub checks_three : 2048 < a → Accepted (subtask_rows times) → ChecksRead times row a (Err ArrowCount)
   unfolding IsCheck subtask_rows time_and_arrow_rows size_rows
   checks_three m k bs s =
-      let times-pass = (accepted_both (count_rows (take n times)) (time_rows (take n times)) k).1 in
-      stop (past_all (time_rows (take n times)) (begin (time_and_arrow_rows (take n times) bs)) times-pass) (rw s.many m) told
+      let times-pass = (accepted_both (count_rows times) (time_rows times) k).1 in
+      stop (past_all (time_rows times) (begin (time_and_arrow_rows times bs)) times-pass) (rw s.many m) told
 
-  pub checks_two : (r : Refusal) → RefusedBy (subtask_rows (take n times)) r → ChecksRead times n row a (Err r)
+  pub checks_two : (r : Refusal) → RefusedBy (subtask_rows times) r → ChecksRead times row a (Err r)
   unfolding IsCheck subtask_rows count_rows time_and_arrow_rows Accepted
-  checks_two r k bs s = refused_first (time_rows (take n times)) _ r (refused_rest (count_rows (take n times)) (time_rows (take n times)) r ((λ h. h among), tt) k)
+  checks_two r k bs s = refused_first (time_rows times) _ r (refused_rest (count_rows times) (time_rows times) r ((λ h. h among), tt) k)

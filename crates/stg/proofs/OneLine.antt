@@ -1,13 +1,8 @@
 -- The line at hand, the first line, a task's line and a dummy's. Assumes nothing.
-use mathlib.Core.Path.{◌≡◌, refl, sym, ◌∙◌, ap}
-use mathlib.Core.List.{List, [], ◌∷◌}
-use mathlib.Core.Bool.{Bool, true, false, ◌&&◌, and-false}
-use Prim.Native.Nat.{ℕ, suc, ◌≤◌, ◌<◌}
-use native.Mathlib.Omega.{arith}
-use borrow.Author.Tests.{eq-eqb, ne_eqb, le-leb, lt-leb, le-ltb}
-use lib.Dec.{eqb, leb, ltb}
-use lib.ListN.{length, get_or, drop}
-use lib.Seq.{drop-cons}
+use Rattle.std.proofs.Common.{◌≡◌, refl, sym, ◌∙◌, ap, List, [], ◌∷◌, Bool, true, false, ◌&&◌, ℕ, suc, ◌≤◌, ◌<◌, arith, eq-eqb, ne_eqb, le-leb, le-ltb}
+use Rattle.std.proofs.Common.{eqb, leb, ltb, length, get_or, drop, drop-cons}
+use mathlib.Core.Bool.{and-false}
+use borrow.Author.Tests.{lt-leb}
 use Rattle.terms.specs.Texts.{all_pass, lines, proper, numbers}
 use Rattle.terms.specs.Readings.{Reading, refuse, line_at_hand, lines_after, is_size, is_first, is_shape, is_task, is_entry_dummy, is_exit_dummy, predecessors_in}
 use Rattle.terms.specs.Readings.{trailer, exit_line, task_lines, entry_line, read_lines}

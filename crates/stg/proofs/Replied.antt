@@ -1,13 +1,9 @@
 -- From the room, the lines and the check to the reply. Assumes nothing.
-use mathlib.Core.Path.{◌≡◌, refl, sym, ◌∙◌, ap}
-use mathlib.Core.List.{List, map}
-use mathlib.Core.Bool.{◌&&◌}
-use Prim.Native.Nat.{ℕ, ◌+◌, ◌≤◌, ◌<◌}
-use native.Mathlib.Omega.{arith}
-use borrow.Author.Tests.{le-leb, lt-leb}
-use lib.Dec.{leb}
-use lib.ListN.{length, take, drop, length-map, length-take}
-use lib.Seq.{sets, sets-eq, take_at}
+use Rattle.std.proofs.Common.{◌≡◌, refl, sym, ◌∙◌, ap, List, map, ◌&&◌, ℕ, ◌+◌, ◌≤◌, ◌<◌, arith, le-leb, leb, length, take, drop, length-take, take_at}
+use Rattle.std.proofs.Common.{Result, Ok, Err}
+use borrow.Author.Tests.{lt-leb}
+use lib.ListN.{length-map}
+use lib.Seq.{sets, sets-eq}
 use Rattle.terms.specs.Rows.{Accepted}
 use Rattle.terms.specs.Graphs.{Among}
 use Rattle.terms.specs.Refusals.{time_and_arrow_rows}
@@ -20,7 +16,6 @@ use Rattle.stg.specs.LinesRead.{hold, Fails, Rows, outcome, Leaves}
 use Rattle.stg.specs.RowsRead.{AllPairs, Stored, ChecksRead, RoomOf, IsRefusalOf, Begins, TellsOf, kept_by, ClearedPast}
 use Rattle.stg.proofs.TwoEnds.{PairsIn, pairs_reading}
 use Rattle.stg.proofs.Clipped.{unclipped, accepted_first_rows}
-use Rattle.std.specs.Prelude.{Result, Ok, Err}
 use Rattle.terms.specs.declared.Refusal.TheVariants.{Room, TextLength}
 
 -- ---- what is asked first
@@ -105,7 +100,7 @@ module _ (text ts : List ℕ) (ar : List (List ℕ)) (ts' : List ℕ) (ar' : Lis
   front : take (length g.us) ts' ≡ g.us
   front = rw g.times (laid g.us ts (omega (arith, few)))
 
-  checked : (r : Result (Unit {0}) Refusal) → ChecksRead ts' n ar' a r → IsCheck (time_and_arrow_rows g.us g.bs) r
+  checked : (r : Result (Unit {0}) Refusal) → ChecksRead (take n ts') ar' a r → IsCheck (time_and_arrow_rows g.us g.bs) r
   checked r f = let k : take n ts' ≡ g.us = ap (λ (m : ℕ). take m ts') g.n_is ∙ front in rw (← k) (f g.bs stored)
 
   begins : (size : GraphSize) → size.subtasks ≡ n → size.arrows ≡ a → Accepted (time_and_arrow_rows g.us g.bs) → Begins g.us g.bs ts' ar' size
@@ -139,14 +134,14 @@ module _ (text ts : List ℕ) (ar : List (List ℕ)) (ts' : List ℕ) (ar' : Lis
     is : read_text (length ts) (length ar) text ≡ graph got.us got.bs
     is = fit_text (length ts) (length ar) text fit ∙ got.is
 
-    tells_check : (r : Result (Unit {0}) Refusal) → ChecksRead ts' size.subtasks ar' size.arrows r → IsCheck (time_and_arrow_rows got.us got.bs) r
+    tells_check : (r : Result (Unit {0}) Refusal) → ChecksRead (take size.subtasks ts') ar' size.arrows r → IsCheck (time_and_arrow_rows got.us got.bs) r
     tells_check r f = checked text ts ar ts' ar' size.subtasks size.arrows fit.0 fit.1 sized.high got r f
 
-    pub told_read : ChecksRead ts' size.subtasks ar' size.arrows (Ok tt) → TellsOf (read_text (length ts) (length ar) text) ts' ar' (Ok size)
+    pub told_read : ChecksRead (take size.subtasks ts') ar' size.arrows (Ok tt) → TellsOf (read_text (length ts) (length ar) text) ts' ar' (Ok size)
     unfolding IsCheck
     told_read f = rw is (begins text ts ar ts' ar' size.subtasks size.arrows fit.0 fit.1 sized.high got size refl refl (tells_check (Ok tt) f))
 
-    pub told_check : (refusal : Refusal) → ChecksRead ts' size.subtasks ar' size.arrows (Err refusal)
+    pub told_check : (refusal : Refusal) → ChecksRead (take size.subtasks ts') ar' size.arrows (Err refusal)
         → IsRefusalOf (read_text (length ts) (length ar) text) refusal
     unfolding IsCheck
     told_check refusal f = rw is (tells_check (Err refusal) f)

@@ -1,14 +1,8 @@
 -- The rest of a line, predecessor by predecessor: what is passed and what is left make up the same. Assumes nothing.
-use Prim.Native.Nat.{ℕ, ◌+◌, ◌≤◌, ◌<◌}
-use mathlib.Core.Path.{◌≡◌, refl, sym, ◌∙◌, ap}
-use mathlib.Core.Logic.{⊎_elim}
-use mathlib.Core.List.{List, [], ◌∷◌}
-use mathlib.Core.Bool.{Bool, true, false, ◌&&◌, and-true, and_assoc}
-use native.Mathlib.Omega.{arith}
-use native.Mathlib.Nat.{add-zero, eq-or-lt_of_le}
-use lib.ListN.{length, drop}
+use Rattle.std.proofs.Common.{ℕ, ◌+◌, ◌≤◌, ◌<◌, ◌≡◌, refl, sym, ◌∙◌, ap, ⊎_elim, List, [], ◌∷◌, Bool, true, false, ◌&&◌, arith, add-zero, eq-or-lt_of_le}
+use Rattle.std.proofs.Common.{length, drop, ltb}
+use mathlib.Core.Bool.{and-true, and_assoc}
 use lib.Seq.{sets}
-use lib.Dec.{ltb}
 use Rattle.terms.specs.Texts.{all_pass, proper, numbers}
 use Rattle.terms.specs.Readings.{arrows_into}
 use Rattle.text.specs.Rest.{line, later}

@@ -1,9 +1,5 @@
 -- Every arrow of a reading has two ends. Assumes nothing.
-use mathlib.Core.Path.{refl}
-use mathlib.Core.List.{List, [], ◌∷◌, ◌++◌}
-use mathlib.Core.Bool.{Bool, true, false, cond}
-use Prim.Native.Nat.{ℕ, zero, suc, ◌+◌}
-use lib.Dec.{eqb, leb}
+use Rattle.std.proofs.Common.{refl, List, [], ◌∷◌, ◌++◌, Bool, true, false, cond, ℕ, zero, suc, ◌+◌, eqb, leb}
 use Rattle.terms.specs.Readings.{Reading, refuse, graph, need, line_at_hand, lines_after, is_task, is_exit_dummy, is_entry_dummy, is_first, may_follow, time_in}
 use Rattle.terms.specs.Readings.{predecessors_in, size_in, arrows_into, with_task, trailer, exit_line, task_lines, entry_line, read_lines}
 use Rattle.terms.specs.declared.Refusal.{Refusal}

@@ -10,7 +10,8 @@ use Rattle.terms.specs.declared.Refusal.TheVariants.{TaskLine, DummyLine}
 use Rattle.text.specs.Rest.{line, later}
 use Rattle.stg.specs.declared.predecessors.Rest.{Rest}
 use Rattle.stg.specs.declared.tasks.Task.{Task}
-use Rattle.stg.specs.declared.tasks.Progress.{Progress}
+use Rattle.stg.specs.declared.outer_lines.Opening.{Opening}
+use Rattle.stg.specs.declared.predecessors.Arrows.{Arrows}
 use Rattle.terms.specs.declared.GraphSize.{GraphSize}
 
 -- ---- one line
@@ -29,6 +30,11 @@ held i ps = map hold (arrows_into i ps)
 pub record Added (i : ℕ) (ps : List ℕ) (a : ℕ) (row : List (List ℕ)) (b : ℕ) (row' : List (List ℕ)) : Type 0 where
   pub counts : b ≡ a + length (arrows_into i ps)
   pub holds : row' ≡ sets row a (held i ps)
+
+-- the same in the lent row
+pub record Adds (i : ℕ) (ps : List ℕ) (before after : Arrows) : Type 0 where
+  pub same_row : after.row.ghost_name ≡ before.row.ghost_name
+  pub added : Added i ps before.count before.row.now after.count after.row.now
 
 -- what the line at `at` gives, with these predecessors of task i on it
 pub record Gives (text : List ℕ) (at i : ℕ) (ps : List ℕ) (row : List (List ℕ)) (a : ℕ) (below : Bool) (b e : ℕ) (row' : List (List ℕ)) : Type 0 where
@@ -53,10 +59,11 @@ pub record PredecessorsAre (text : List ℕ) (at i : ℕ) (row : List (List ℕ)
   pub many : length (numbers (line (drop at text))) ≡ k
   pub gives : Gives text at i (numbers (line (drop at text))) row a below b e row'
 
-abbrev pub PredecessorsOf : List ℕ → ℕ → ℕ → List (List ℕ) → ℕ → List (List ℕ) → Option Rest → Type 0
-PredecessorsOf text at i row a row' None = proper (line (drop at text)) ≡ false
-PredecessorsOf text at i row a row' (Some rest) =
-    PredecessorsAre text at i row a rest.count rest.below rest.arrows rest.next row'
+abbrev pub PredecessorsOf : List ℕ → ℕ → ℕ → Arrows → Arrows → Option Rest → Type 0
+PredecessorsOf text at i before after None = proper (line (drop at text)) ≡ false
+PredecessorsOf text at i before after (Some rest) =
+    (after.row.ghost_name ≡ before.row.ghost_name)
+    × PredecessorsAre text at i before.row.now before.count rest.count rest.below after.count rest.next after.row.now
 
 -- ---- the tasks' lines
 
@@ -68,9 +75,11 @@ pub record TaskIs (text : List ℕ) (at i : ℕ) (row : List (List ℕ)) (a t : 
   pub time : time_in (line (drop at text)) ≡ t
   pub gives : Gives text at i (predecessors_in (line (drop at text))) row a below b e row'
 
-abbrev pub TaskOf : List ℕ → ℕ → ℕ → List (List ℕ) → ℕ → List (List ℕ) → Option Task → Type 0
-TaskOf text at i row a row' None = is_task i (line (drop at text)) ≡ false
-TaskOf text at i row a row' (Some line) = TaskIs text at i row a line.time line.below line.arrows line.next row'
+abbrev pub TaskOf : List ℕ → ℕ → ℕ → Arrows → Arrows → Option Task → Type 0
+TaskOf text at i before after None = is_task i (line (drop at text)) ≡ false
+TaskOf text at i before after (Some task) =
+    (after.row.ghost_name ≡ before.row.ghost_name)
+    × TaskIs text at i before.row.now before.count task.time task.below after.count task.next after.row.now
 
 -- what lines leave: a refusal, or both rows and how many stand in each
 pub data Outcome : Type 0 where
@@ -89,18 +98,20 @@ pub record OneSubtask (text : List ℕ) (at j a : ℕ) (ts : List ℕ) (ar : Lis
   pub inside : e ≤ length text
   pub few : b ≤ e
 
-abbrev pub SubtaskOf : List ℕ → ℕ → ℕ → ℕ → List ℕ → List (List ℕ) → List ℕ → List (List ℕ) → Result Progress Refusal → Type 0
-SubtaskOf text at j a ts ar ts' ar' (Err refusal) = (k : ℕ) → task_lines (j + 1) (suc k) (lines (drop at text)) ≡ refuse refusal
-SubtaskOf text at j a ts ar ts' ar' (Ok far) = OneSubtask text at j a ts ar far.count far.next ts' ar'
+abbrev pub SubtaskOf : List ℕ → ℕ → ℕ → List ℕ → Arrows → List ℕ → Arrows → Result ℕ Refusal → Type 0
+SubtaskOf text at j ts before ts' after (Err refusal) = (k : ℕ) → task_lines (j + 1) (suc k) (lines (drop at text)) ≡ refuse refusal
+SubtaskOf text at j ts before ts' after (Ok e) =
+    (after.row.ghost_name ≡ before.row.ghost_name) × OneSubtask text at j before.count ts before.row.now after.count e ts' after.row.now
 
 -- all subtasks' lines
 pub record AllSubtasks (text : List ℕ) (at n : ℕ) (ts : List ℕ) (ar : List (List ℕ)) (b e : ℕ) (ts' : List ℕ) (ar' : List (List ℕ)) : Type 0 where
   pub does : outcome ts ar 0 0 (task_lines 1 n (lines (drop at text))) ≡ outcome ts' ar' n b (exit_line (n + 1) (lines (drop e text)))
   pub inside : e ≤ length text
 
-abbrev pub SubtasksOf : List ℕ → ℕ → ℕ → List ℕ → List (List ℕ) → List ℕ → List (List ℕ) → Result Progress Refusal → Type 0
-SubtasksOf text at n ts ar ts' ar' (Err refusal) = outcome ts ar 0 0 (task_lines 1 n (lines (drop at text))) ≡ Fails refusal
-SubtasksOf text at n ts ar ts' ar' (Ok far) = AllSubtasks text at n ts ar far.count far.next ts' ar'
+abbrev pub SubtasksOf : List ℕ → ℕ → ℕ → List ℕ → Arrows → List ℕ → Arrows → Result ℕ Refusal → Type 0
+SubtasksOf text at n ts before ts' after (Err refusal) = outcome ts before.row.now 0 0 (task_lines 1 n (lines (drop at text))) ≡ Fails refusal
+SubtasksOf text at n ts before ts' after (Ok e) =
+    (after.row.ghost_name ≡ before.row.ghost_name) × AllSubtasks text at n ts before.row.now after.count e ts' after.row.now
 
 -- ---- the other lines
 
@@ -110,9 +121,9 @@ pub record FirstIs (text : List ℕ) (n e : ℕ) : Type 0 where
   pub inside : e ≤ length text
   pub size : Among 1 256 n
 
-abbrev pub FirstOf : List ℕ → Result Progress Refusal → Type 0
+abbrev pub FirstOf : List ℕ → Result Opening Refusal → Type 0
 FirstOf text (Err refusal) = read_lines (lines text) ≡ refuse refusal
-FirstOf text (Ok far) = FirstIs text far.count far.next
+FirstOf text (Ok first) = FirstIs text first.subtasks first.next
 
 -- a dummy's line: time 0, predecessors below i
 abbrev pub dummy : ℕ → List ℕ → Reading → Reading
@@ -144,9 +155,9 @@ pub record Opened (text : List ℕ) (n e : ℕ) : Type 0 where
   pub inside : e ≤ length text
   pub size : Among 1 256 n
 
-abbrev pub OpeningOf : List ℕ → Result Progress Refusal → Type 0
+abbrev pub OpeningOf : List ℕ → Result Opening Refusal → Type 0
 OpeningOf text (Err refusal) = read_lines (lines text) ≡ refuse refusal
-OpeningOf text (Ok far) = Opened text far.count far.next
+OpeningOf text (Ok first) = Opened text first.subtasks first.next
 
 -- what the lines after the last subtask's leave
 abbrev pub closed : Result (Unit {0}) Refusal → Reading

@@ -21,9 +21,9 @@ pub record Stored (arrows : List (List ℕ)) (a : ℕ) (row : List (List ℕ)) :
   pub many : length arrows ≡ a
   pub first : a ≤ 2048 → take a row ≡ map hold arrows
 
--- 2 to 7, asked of n times and of the a arrows that were read
-abbrev pub ChecksRead : List ℕ → ℕ → List (List ℕ) → ℕ → Result (Unit {0}) Refusal → Type 0
-ChecksRead times n row a r = (arrows : List (List ℕ)) → Stored arrows a row → IsCheck (time_and_arrow_rows (take n times) arrows) r
+-- 2 to 7, asked of the times and of the a arrows that were read
+abbrev pub ChecksRead : List ℕ → List (List ℕ) → ℕ → Result (Unit {0}) Refusal → Type 0
+ChecksRead times row a r = (arrows : List (List ℕ)) → Stored arrows a row → IsCheck (time_and_arrow_rows times arrows) r
 
 -- 11 and 20, asked before the lines
 abbrev pub RoomOf : ℕ → ℕ → ℕ → Result (Unit {0}) Refusal → Type 0

@@ -17,6 +17,7 @@ ghost use Rattle.stg.specs.RowsRead.{ChecksRead, RoomOf, TellsOf, ClearedPast};
 use graph::check;
 use limits::check_subtasks;
 use outer_lines::{take_closing, take_opening};
+use predecessors::Arrows;
 use tasks::take_subtasks;
 use terms::{GraphSize, LONGEST_TEXT, MOST_ARROWS, MOST_SUBTASKS, Refusal};
 use writer::write_graph;
@@ -33,11 +34,15 @@ fn read_tasks(
     ensures { Leaves times.old arrows.old (task_lines 1 n (lines (drop at text.now)))
         times.new arrows.new result }
 {
-    let far = take_subtasks(text, at, n, times, arrows)?;
-    take_closing(text, far.next, n + 1)?;
+    let mut arrows = Arrows {
+        row: arrows,
+        count: 0,
+    };
+    let next = take_subtasks(text, at, n, times, &mut arrows)?;
+    take_closing(text, next, n + 1)?;
     Ok(GraphSize {
         subtasks: n,
-        arrows: far.count,
+        arrows: arrows.count,
     })
 }
 
@@ -47,18 +52,18 @@ fn read_lines(text: &[u8], times: &mut [u16], arrows: &mut [[u16; 2]]) -> Result
     ensures { Leaves times.old arrows.old (read_lines (lines text.now)) times.new arrows.new result }
 {
     let first = take_opening(text)?;
-    read_tasks(text, first.next, first.count, times, arrows)
+    read_tasks(text, first.next, first.subtasks, times, arrows)
 }
 
 // 2 to 7, asked of a graph that was read. Of more than 2,048 arrows the row holds the first ones: only 2 or 3 can be the answer then.
-fn check_read(times: &[u16], n: usize, arrows: &[[u16; 2]], a: usize) -> Result<(), Refusal>
-    requires { (1 ≤ n) × (n ≤ 256) × (256 ≤ length times.now) × (2048 ≤ length arrows.now) }
-    ensures { ChecksRead times.now n arrows.now a result }
+fn check_read(times: &[u16], arrows: &[[u16; 2]], a: usize) -> Result<(), Refusal>
+    requires { Among 1 256 (length times.now) × (2048 ≤ length arrows.now) }
+    ensures { ChecksRead times.now arrows.now a result }
 {
     if a <= MOST_ARROWS {
-        return check(&times[..n], &arrows[..a]);
+        return check(times, &arrows[..a]);
     }
-    check_subtasks(&times[..n])?;
+    check_subtasks(times)?;
     Err(Refusal::ArrowCount)
 }
 
@@ -82,7 +87,7 @@ fn read_graph(text: &[u8], times: &mut [u16], arrows: &mut [[u16; 2]]) -> Result
 {
     check_room(times.len(), arrows.len(), text.len())?;
     let size = read_lines(text, times, arrows)?;
-    check_read(times, size.subtasks, arrows, size.arrows)?;
+    check_read(&times[..size.subtasks], arrows, size.arrows)?;
     Ok(size)
 }
 

@@ -6,12 +6,20 @@ ghost use Rattle.terms.specs.Readings.{refuse, graph, trailer, exit_line};
 ghost use Rattle.stg.specs.LinesRead.{FirstOf, DummyOf, FollowerOf, OpeningOf, closed};
 
 use super::numbers::{line_end, number};
-use super::tasks::{Progress, task_line};
+use super::predecessors::Arrows;
+use super::tasks::task_line;
 use terms::{MOST_SUBTASKS, Refusal};
 use text::line_after;
 
+// How many subtasks there are, and where the next line begins.
+#[derive(Clone, Copy)]
+pub struct Opening {
+    pub subtasks: usize,
+    pub next: usize,
+}
+
 // The first line, which is nothing but the number of subtasks.
-fn first_line(text: &[u8]) -> Result<Progress, Refusal>
+fn first_line(text: &[u8]) -> Result<Opening, Refusal>
     ensures { FirstOf text.now result }
 {
     let Some((n, past_n)) = number(text, 0) else {
@@ -21,7 +29,7 @@ fn first_line(text: &[u8]) -> Result<Progress, Refusal>
         return Err(Refusal::FirstLine);
     };
     match n {
-        1..=MOST_SUBTASKS => Ok(Progress { count: n, next }),
+        1..=MOST_SUBTASKS => Ok(Opening { subtasks: n, next }),
         _ => Err(Refusal::FirstLine),
     }
 }
@@ -31,7 +39,11 @@ fn dummy_line(text: &[u8], at: usize, i: usize) -> Result<usize, Refusal>
     requires { (at ≤ length text.now) × (i < 65536) }
     ensures { DummyOf text.now at i result }
 {
-    let Some(line) = task_line(text, at, i, &mut [], 0) else {
+    let mut none = Arrows {
+        row: &mut [],
+        count: 0,
+    };
+    let Some(line) = task_line(text, at, i, &mut none) else {
         return Err(Refusal::TaskLine);
     };
     if line.time != 0 || !line.below {
@@ -67,13 +79,13 @@ fn may_end(text: &[u8], at: usize) -> bool
 }
 
 // The first line and the entry dummy's: the number of subtasks, and the place where their lines begin.
-pub fn take_opening(text: &[u8]) -> Result<Progress, Refusal>
+pub fn take_opening(text: &[u8]) -> Result<Opening, Refusal>
     ensures { OpeningOf text.now result }
 {
     let first = first_line(text)?;
     let next = dummy_line(text, first.next, 0)?;
-    Ok(Progress {
-        count: first.count,
+    Ok(Opening {
+        subtasks: first.subtasks,
         next,
     })
 }

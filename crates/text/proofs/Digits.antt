@@ -1,6 +1,6 @@
 -- The digits of a field, one by one: what is read and what is left make up the same number, which stays small. Assumes nothing.
-use Rattle.std.proofs.Common.{◌≡◌, refl, ap, ◌∙◌, ℕ, zero, suc, ◌+◌, ◌-◌, ◌*◌, ◌^◌, ◌≤◌, ◌<◌, List, [], ◌∷◌, Bool, true, false, ◌&&◌, leb, length, take, drop, get_or}
-use Rattle.std.proofs.Common.{arith, pow-suc, add-one, drop_of_length-le, drop-cons, get_or-drop, leb-true}
+use Rattle.std.proofs.Common.{◌≡◌, refl, ap, ◌∙◌, ℕ, zero, suc, ◌+◌, ◌-◌, ◌*◌, ◌^◌, ◌≤◌, ◌<◌, List, [], ◌∷◌, Bool, true, false, ◌&&◌, leb, length, take}
+use Rattle.std.proofs.Common.{drop, get_or, arith, pow-suc, add-one, drop_of_length-le, drop-cons, get_or-drop, leb-true}
 use Rattle.std.proofs.lemmas.List.{take_rest}
 use native.Mathlib.Nat.{pow-le-pow_right}
 use Rattle.terms.specs.Texts.{all_pass, is_digit, value_from, value}

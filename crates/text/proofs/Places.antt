@@ -1,13 +1,6 @@
 -- What stands at a place of a text: spaces and tabs, digits, a line's end. Assumes nothing.
-use Prim.Native.Nat.{ℕ, suc, ◌+◌, ◌≤◌, ◌<◌}
-use mathlib.Core.Path.{◌≡◌, refl, ap}
-use mathlib.Core.List.{List, [], ◌∷◌}
-use mathlib.Core.Bool.{Bool, true, false, cond, ◌||◌}
-use native.Mathlib.Omega.{arith}
-use lib.ListN.{length, take, drop, get_or, length-drop, drop_of_length-le}
-use lib.Seq.{drop-cons}
-use lib.Dec.{eqb}
-use borrow.Author.Tests.{ne_eqb}
+use Rattle.std.proofs.Common.{ℕ, suc, ◌+◌, ◌≤◌, ◌<◌, ◌≡◌, refl, ap, List, [], ◌∷◌, Bool, true, false, cond, ◌||◌, arith, length, take, drop, get_or, length-drop}
+use Rattle.std.proofs.Common.{drop_of_length-le, drop-cons, eqb, ne_eqb}
 use Rattle.terms.specs.Texts.{is_blank, is_digit, is_feed, is_return, ends_here, blanks, digits}
 use Rattle.text.specs.Steps.{line_size}
 

@@ -1,15 +1,8 @@
 -- What stands next at a place of a text: the equations of `next_number`, and what it tells about the line there. Assumes nothing.
-use Prim.Native.Nat.{ℕ, ◌+◌, ◌≤◌, ◌<◌}
-use mathlib.Core.Path.{◌≡◌, refl, sym, ◌∙◌, ap}
-use mathlib.Core.List.{List, [], ◌∷◌, ◌++◌}
-use mathlib.Core.Bool.{Bool, true, false, cond, ◌&&◌, and-true}
-use native.Mathlib.Omega.{arith}
-use native.Mathlib.Nat.{add-zero, eq-or-lt_of_le}
-use mathlib.Core.Logic.{⊎_elim}
-use lib.Dec.{leb}
-use lib.ListN.{length, drop, get_or}
-use lib.Seq.{drop-drop}
-use borrow.Author.Tests.{ne_eqb, le-leb, lt-leb}
+use Rattle.std.proofs.Common.{ℕ, ◌+◌, ◌≤◌, ◌<◌, ◌≡◌, refl, sym, ◌∙◌, ap, List, [], ◌∷◌, ◌++◌, Bool, true, false, cond, ◌&&◌, arith, add-zero, eq-or-lt_of_le}
+use Rattle.std.proofs.Common.{⊎_elim, leb, length, drop, get_or, drop-drop, ne_eqb, le-leb}
+use mathlib.Core.Bool.{and-true}
+use borrow.Author.Tests.{lt-leb}
 use Rattle.terms.specs.Texts.{all_pass, is_digit, fields, is_field, value, proper, numbers, ends_here, blanks, digits}
 use Rattle.text.specs.declared.Next.{Next}
 use Rattle.text.specs.declared.Next.TheVariants as next

@@ -1,9 +1,7 @@
 -- From the bytes put to the writer's reply: over the rows of an accepted graph they are the graph's text. Assumes nothing.
-use mathlib.Core.Path.{◌≡◌, refl, ap, ap₂, ◌∙◌}
-use mathlib.Core.List.{List, [], ◌∷◌, ◌++◌}
-use Prim.Native.Nat.{ℕ, ◌+◌, ◌-◌, ◌≤◌, ◌<◌}
-use native.Mathlib.Omega.{arith}
-use lib.ListN.{length, take, drop, replicate, length-take, length-replicate}
+use Rattle.std.proofs.Common.{◌≡◌, refl, ap, ap₂, ◌∙◌, List, [], ◌∷◌, ◌++◌, ℕ, ◌+◌, ◌-◌, ◌≤◌, ◌<◌, arith, length, take, drop, replicate, length-take, Result}
+use Rattle.std.proofs.Common.{Ok, Err}
+use lib.ListN.{length-replicate}
 use Rattle.terms.specs.Rows.{Accepted, RefusedBy, row}
 use Rattle.terms.specs.Arrangements.{predecessors_of, sources_of, lasts_of, row_of}
 use Rattle.terms.specs.Writings.{text_of, with_count, subtask_lines, exit_numbers, stg_lines, stg_text}
@@ -20,7 +18,6 @@ use Rattle.room.specs.Puts.{Stands}
 use Rattle.room.proofs.Puts.{stands_left}
 use Rattle.writer.specs.Lines.{rows_text, Rows, SoundRows}
 use Rattle.writer.specs.Fronts.{Writes}
-use Rattle.std.specs.Prelude.{Result, Ok, Err}
 use Rattle.terms.specs.declared.Refusal.TheVariants.{Room}
 
 -- the front of a row is no longer than it should be

@@ -1,10 +1,5 @@
 -- The row of a subtask is a part of the table of numbers. Assumes nothing.
-use mathlib.Core.Path.{◌≡◌, sym, ap₂, ◌∙◌}
-use mathlib.Core.List.{List}
-use Prim.Native.Nat.{ℕ, ◌+◌, ◌-◌, ◌≤◌, ◌<◌}
-use native.Mathlib.Omega.{arith}
-use lib.ListN.{length, get_or, take, drop, length-drop}
-use lib.Seq.{length-take-le}
+use Rattle.std.proofs.Common.{◌≡◌, sym, ap₂, ◌∙◌, List, ℕ, ◌+◌, ◌-◌, ◌≤◌, ◌<◌, arith, length, get_or, take, drop, length-drop, length-take-le}
 use Rattle.terms.specs.Arrangements.{stretch, row_of}
 use Rattle.theory.proofs.Ascending.{stretch_part}
 use Rattle.writer.specs.Lines.{HasRow, Rows}

@@ -1,14 +1,10 @@
 -- The line of a task, number by number: what is put and what remains make up the line, and so do what is counted and what remains. Assumes nothing.
-use mathlib.Core.Path.{◌≡◌, refl, sym, ap, ◌∙◌}
-use mathlib.Core.List.{List, [], ◌∷◌, ◌++◌, append_assoc}
-use Prim.Native.Nat.{ℕ, suc, ◌+◌, ◌*◌, ◌≤◌, ◌<◌}
-use native.Mathlib.Omega.{arith}
-use lib.ListN.{length, get_or, drop, length-append, drop_of_length-le}
-use lib.Seq.{drop-cons}
+use Rattle.std.proofs.Common.{◌≡◌, refl, sym, ap, ◌∙◌, List, [], ◌∷◌, ◌++◌, append_assoc, ℕ, suc, ◌+◌, ◌*◌, ◌≤◌, ◌<◌, arith, length, get_or, drop, length-append}
+use Rattle.std.proofs.Common.{drop_of_length-le, drop-cons}
 use Rattle.terms.specs.Writings.{decimal, further, line, with_count}
 use Rattle.room.specs.Puts.{HasRoom, Stands, Put}
 use Rattle.room.proofs.Remaining.{Remains, remains_all, remains_same, remains_room, remains_stands, remains_put, remains_none}
-use Rattle.writer.specs.Lines.{task_line, subtask_line}
+use Rattle.writer.specs.Lines.{task_line}
 
 -- ---- a space and a number
 
@@ -145,7 +141,7 @@ module _ (task time : ℕ) (row : List ℕ) where
     omega (arith, counted.most, counted.inside, few),
   )
 
--- ---- a subtask's line
+-- ---- a subtask's row, as its line shows it
 
 -- the count of a row and the row, where it has a predecessor; else the one number 0
 pub count_none : (row : List ℕ) → length row ≡ 0 → 1 ∷ 0 ∷ [] ≡ with_count row
@@ -157,8 +153,3 @@ pub count_some : (row : List ℕ) → ¬ (length row ≡ 0) → length row ∷ r
 unfolding with_count
 count_some [] n = absurd (n refl)
 count_some (x ∷ row) n = refl
-
--- it is the line of these numbers
-pub subtask_shown : (j time : ℕ) (row : List ℕ) {shown : List ℕ} → length shown ∷ shown ≡ with_count row → task_line j time shown ≡ subtask_line j time row
-unfolding task_line subtask_line
-subtask_shown j time row e = ap (λ (ps : List ℕ). line (j ∷ time ∷ ps) ++ 10 ∷ []) e

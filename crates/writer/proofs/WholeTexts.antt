@@ -1,9 +1,5 @@
 -- The whole text, part by part: the number of subtasks, the entry dummy's line, the subtasks' lines, the exit dummy's line. Assumes nothing.
-use mathlib.Core.Path.{◌≡◌, refl, sym, ap, ap₂, ◌∙◌}
-use mathlib.Core.List.{List, [], ◌∷◌, ◌++◌, append_assoc, append-nil}
-use Prim.Native.Nat.{ℕ, ◌+◌}
-use native.Mathlib.Omega.{arith}
-use lib.ListN.{length, length-append}
+use Rattle.std.proofs.Common.{◌≡◌, refl, sym, ap, ap₂, ◌∙◌, List, [], ◌∷◌, ◌++◌, append_assoc, append-nil, ℕ, ◌+◌, arith, length, length-append}
 use Rattle.terms.specs.Arrangements.{row_of}
 use Rattle.terms.specs.Writings.{decimal, further, line, text_of, subtask_lines, exit_numbers}
 use Rattle.room.specs.Puts.{HasRoom, Stands, Put}
@@ -88,3 +84,8 @@ module _ (times begins numbers lasts : List ℕ) where
     length-append (task_line 0 0 []) after_entry,
     length-append (subtasks_text times begins numbers) exit,
   )
+
+-- what a room holds in the end
+pub left_in : {before after bytes : List ℕ} {at past : ℕ} (text : List ℕ) → text ≡ after → Stands before at bytes after past
+    → (k : ℕ) × Stands before at bytes text k
+left_in {past = past} text e s = (past, rw e s)

@@ -2,16 +2,12 @@
 use Rattle.std.specs.Prelude.{◌≡◌, List, [], ◌∷◌, ◌++◌, ℕ, ◌-◌, ◌≤◌, ◌<◌, length, get_or}
 use Rattle.terms.specs.Graphs.{IsSubtask}
 use Rattle.terms.specs.Arrangements.{predecessors_of, row_of, Arranged}
-use Rattle.terms.specs.Writings.{line, text_of, with_count, subtask_lines, exit_numbers}
+use Rattle.terms.specs.Writings.{line, text_of, subtask_lines, exit_numbers}
 use Rattle.theory.specs.Sound.{SoundGraph}
 
 -- a task's line with its LF: number, time, how many numbers its row has, and these
 unfoldable pub task_line : ℕ → ℕ → List ℕ → List ℕ
 task_line task time row = line (task ∷ time ∷ length row ∷ row) ++ 10 ∷ []
-
--- a subtask's line with its LF
-unfoldable pub subtask_line : ℕ → ℕ → List ℕ → List ℕ
-subtask_line j time row = line (j ∷ time ∷ with_count row) ++ 10 ∷ []
 
 -- the lines of all subtasks
 unfoldable pub subtasks_text : List ℕ → List ℕ → List ℕ → List ℕ

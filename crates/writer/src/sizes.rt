@@ -1,8 +1,8 @@
 // How long the lines of a graph's text are.
 ghost use Rattle.std.specs.Prelude.{◌≡◌, ◌≤◌, length};
-ghost use Rattle.writer.specs.Lines.{task_line, subtask_line, subtasks_text, rows_text, Rows};
+ghost use Rattle.writer.specs.Lines.{task_line, subtasks_text, rows_text, Rows};
 
-use crate::rows::{row_of, shown};
+use crate::rows::Predecessors;
 use room::number_size;
 
 // A task's line: three numbers, two spaces between them and LF; and each further number with a space before it.
@@ -17,33 +17,25 @@ fn line_size(task: u32, time: u32, row: &[u16]) -> usize
     size
 }
 
-// A subtask's line.
-fn subtask_size(j: u32, time: u32, row: &[u16]) -> usize
-    requires { length row.now ≤ 2048 }
-    ensures { (result ≡ length (subtask_line j time row.now)) × (result ≤ 30000) }
-{
-    line_size(j, time, shown(row))
-}
-
 // The lines of all subtasks.
-fn subtasks_size(times: &[u16], begins: &[u16], numbers: &[u16]) -> usize
-    requires { Rows times.now begins.now numbers.now }
-    ensures { (result ≡ length (subtasks_text times.now begins.now numbers.now)) × (result ≤ 8000000) }
+fn subtasks_size(times: &[u16], predecessors: &Predecessors) -> usize
+    requires { Rows times.now predecessors.now.begins.now predecessors.now.numbers.now }
+    ensures { (result ≡ length (subtasks_text times.now predecessors.now.begins.now predecessors.now.numbers.now)) × (result ≤ 8000000) }
 {
     let mut size: usize = 0;
     for (i, time) in times.iter().enumerate() {
-        let row = row_of(begins, numbers, i + 1);
-        size += subtask_size((i + 1) as u32, u32::from(*time), row);
+        let row = predecessors.shown(i + 1);
+        size += line_size((i + 1) as u32, u32::from(*time), row);
     }
     size
 }
 
 // The whole text.
-pub fn text_size(times: &[u16], begins: &[u16], numbers: &[u16], lasts: &[u16]) -> usize
-    requires { Rows times.now begins.now numbers.now × (length lasts.now ≤ 2048) }
-    ensures { result ≡ length (rows_text times.now begins.now numbers.now lasts.now) }
+pub fn text_size(times: &[u16], predecessors: &Predecessors, lasts: &[u16]) -> usize
+    requires { Rows times.now predecessors.now.begins.now predecessors.now.numbers.now × (length lasts.now ≤ 2048) }
+    ensures { result ≡ length (rows_text times.now predecessors.now.begins.now predecessors.now.numbers.now lasts.now) }
 {
     let n = times.len() as u32;
     let head = number_size(n) + 1 + line_size(0, 0, &[]);
-    head + subtasks_size(times, begins, numbers) + line_size(n + 1, 0, lasts)
+    head + subtasks_size(times, predecessors) + line_size(n + 1, 0, lasts)
 }

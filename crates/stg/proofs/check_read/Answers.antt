@@ -8,25 +8,16 @@ use Rattle.stg.proofs.check_read.Goals as goal
 pub slice_bounds-check-end : goal.slice_bounds-check-end
 slice_bounds-check-end c = sym (length-take-le _ _ (omega arith))
 
-pub slice_bounds-check-end-then-a-le-MOST_ARROWS : goal.slice_bounds-check-end-then-a-le-MOST_ARROWS
-slice_bounds-check-end-then-a-le-MOST_ARROWS c = sym (length-take-le _ _ (omega arith))
-
 pub returns-then-a-le-MOST_ARROWS : goal.returns-then-a-le-MOST_ARROWS
 returns-then-a-le-MOST_ARROWS c =
-    checks_few c.args.times.now c.args.n c.args.arrows.now c.args.a (omega arith) (omega arith) (omega arith) _ (omega arith)
-    c.check.ensures
-
-pub slice_bounds-check_subtasks-end : goal.slice_bounds-check_subtasks-end
-slice_bounds-check_subtasks-end c = sym (length-take-le _ _ (omega arith))
+    checks_few c.args.times.now c.args.arrows.now c.args.a c.requires.0 _ (omega arith) c.check.ensures
 
 pub returns-in_err-check_subtasks : goal.returns-in_err-check_subtasks
 unfolding IsCheck
 returns-in_err-check_subtasks c =
     let p = err_from_is_err_and c.from_residual.result c.from_residual.ensures.1 in
-    rw (p.1, p.2) (checks_two c.args.times.now c.args.n c.args.arrows.now c.args.a (omega arith) (omega arith) (omega arith) _ c.in_err-check_subtasks.ensures)
+    rw (p.1, p.2) (checks_two c.args.times.now c.args.arrows.now c.args.a c.requires.0 _ c.in_err-check_subtasks.ensures)
 
 pub returns : goal.returns
 unfolding IsCheck
-returns c =
-    checks_three c.args.times.now c.args.n c.args.arrows.now c.args.a (omega arith) (omega arith) (omega arith) (omega arith)
-    c.in_ok-check_subtasks.ensures
+returns c = checks_three c.args.times.now c.args.arrows.now c.args.a c.requires.0 (omega arith) c.in_ok-check_subtasks.ensures

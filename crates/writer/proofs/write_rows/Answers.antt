@@ -1,9 +1,5 @@
 -- `write_rows`: the text of an accepted graph, over its rows of predecessors. Assumes nothing.
-use mathlib.Core.Path.{sym}
-use Prim.Native.Nat.{ℕ}
-use native.Mathlib.Omega.{arith}
-use lib.ListN.{length}
-use lib.Seq.{length-take-le}
+use Rattle.std.proofs.Common.{sym, ℕ, arith, length, length-take-le}
 use Rattle.terms.specs.Arrangements.{lasts_of}
 use Rattle.arranged.proofs.NoArrows.{Leads, front_lasts}
 use Rattle.writer.proofs.Replied.{front_short, rows_stand, written_rows}

@@ -9,4 +9,4 @@ returns-then-text-size c =
 
 pub returns : goal.returns
 returns c =
-    writes_all _ _ (omega arith) (omega arith) c.put_text.ensures
+    writes_all _ _ (omega arith) (omega arith) c.put_text.ensures.1

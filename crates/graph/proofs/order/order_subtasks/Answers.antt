@@ -49,8 +49,8 @@ bounds-order-placed c = (end_small c.loop-c.invariant.0 c.if-c-ne0.false c.loop-
 
 goes_back : goal.loop-c-preserved × goal.loop-c-smaller
 goes_back = both (λ c.
-    let s = state_back c.loop-c.invariant.0 c.if-c-ne0.false c.loop-c.invariant.1 c.if-depth-eq0.false c.from-a.ensures c.to_at-to.ensures.0 in
-    rw c.after-c-else-c-ne0.ensures ((s.0, back_is c.loop-c.invariant.0 c.if-c-ne0.false c.loop-c.invariant.1 c.if-depth-eq0.false c.from-a.ensures c.to_at-to.ensures.0), s.1))
+    let s = state_back c.loop-c.invariant.0 c.if-c-ne0.false c.loop-c.invariant.1 c.if-depth-eq0.false c.from-a.ensures c.sink-to.ensures.0 in
+    rw c.after-c-else-c-ne0.ensures ((s.0, back_is c.loop-c.invariant.0 c.if-c-ne0.false c.loop-c.invariant.1 c.if-depth-eq0.false c.from-a.ensures c.sink-to.ensures.0), s.1))
 
 pub loop-c-preserved : goal.loop-c-preserved
 loop-c-preserved = goes_back.0

@@ -9,9 +9,9 @@ returns-in_default c = dummy_bad c.args.i _ c.in_default.ensures
 
 pub returns-then-line-ne0 : goal.returns-then-line-ne0
 returns-then-line-ne0 c = elim c.then-line-ne0.branch [
-  | then-line-ne0-via-then-line-ne0 w ↦ dummy_time c.in-Some.ensures w.if-line-ne0.true
-  | then-line-ne0-via-else-line-ne0+then-not-line w ↦ dummy_far c.in-Some.ensures (not-true _ w.if-not-line.true)
+  | then-line-ne0-via-then-line-ne0 w ↦ dummy_time c.in-Some.ensures.1 w.if-line-ne0.true
+  | then-line-ne0-via-else-line-ne0+then-not-line w ↦ dummy_far c.in-Some.ensures.1 (not-true _ w.if-not-line.true)
 ]
 
 pub returns : goal.returns
-returns c = dummy_is c.in-Some.ensures c.if-line-ne0.false (not-false _ c.if-not-line.false)
+returns c = dummy_is c.in-Some.ensures.1 c.if-line-ne0.false (not-false _ c.if-not-line.false)

@@ -1,7 +1,5 @@
 -- `may_end`: only lines that may follow stand from here on. Assumes nothing.
-use mathlib.Core.Path.{◌≡◌}
-use Prim.Native.Nat.{◌-◌, ◌≤◌}
-use lib.ListN.{length, drop}
+use Rattle.std.proofs.Common.{◌≡◌, ◌-◌, ◌≤◌, length, drop}
 use Rattle.terms.specs.Texts.{lines}
 use Rattle.terms.specs.Readings.{trailer}
 use Rattle.stg.proofs.outer_lines.may_end.Given as goal

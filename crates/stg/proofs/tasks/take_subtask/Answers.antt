@@ -8,9 +8,10 @@ returns-in_default c = subtask_bad c.args.text.now c.args.at c.args.j c.in_defau
 
 pub returns-in_default-try_from : goal.returns-in_default-try_from
 returns-in_default-try_from c =
-    subtask_long c.args.text.now c.args.at c.args.j c.in-Some.ensures (omega (arith, c.in_default-try_from.ensures))
+    subtask_long c.args.text.now c.args.at c.args.j c.in-Some.ensures.1 (omega (arith, c.in_default-try_from.ensures))
 
 pub returns : goal.returns
 returns c =
+    let (same, line) = c.in-Some.ensures in
     let small = c.in-Ok.ensures in
-    subtask_is c.args.text.now c.args.at c.args.j c.in-Some.ensures c.args.times.now c.in-Ok.time (omega (arith, small)) (omega (arith, small))
+    (same, subtask_is c.args.text.now c.args.at c.args.j line c.args.times.now c.in-Ok.time (omega (arith, small)) (omega (arith, small)))

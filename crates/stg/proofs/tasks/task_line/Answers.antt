@@ -39,9 +39,10 @@ returns-in_err-rest c =
 pub returns-then-count-rest : goal.returns-then-count-rest
 returns-then-count-rest c =
     let head = headed c.in_ok-index.ensures c.in_ok-time.ensures c.in_ok-count.ensures in
-    task_miss c.args.text.now c.args.at _ head c.in_ok-rest.ensures c.if-count-rest.true
+    task_miss c.args.text.now c.args.at _ head c.in_ok-rest.ensures.1 c.if-count-rest.true
 
 pub returns : goal.returns
 returns c =
     let head = headed c.in_ok-index.ensures c.in_ok-time.ensures c.in_ok-count.ensures in
-    task_is c.args.text.now c.args.at _ head c.in_ok-rest.ensures c.if-index-i.false c.if-count-rest.false
+    let (same, rest) = c.in_ok-rest.ensures in
+    (same, task_is c.args.text.now c.args.at _ head rest c.if-index-i.false c.if-count-rest.false)

@@ -1,36 +1,30 @@
 -- `put_subtasks`: the lines of the subtasks, one by one: whoever puts those that remain has put all. Assumes nothing.
-use Rattle.std.proofs.Common.{arith}
+use Rattle.std.proofs.Common.{refl, ◌∙◌, arith}
 use Rattle.writer.proofs.TableRows.{row_at}
 use Rattle.writer.proofs.SubtaskTexts.{lines_all, line_room, lines_next, lines_end}
 use Rattle.writer.proofs.lines.put_subtasks.Goals as goal
 
 pub loop-i-init : goal.loop-i-init
-loop-i-init c =
-    lines_all _ _ _ _ _ c.requires.1
+loop-i-init c = (refl, lines_all _ _ _ _ _ c.requires.1)
 
-pub row_of-row-requires : goal.row_of-row-requires
-row_of-row-requires c =
-    row_at c.requires.0 _ c.loop-i-test.true
+pub shown-row-requires : goal.shown-row-requires
+shown-row-requires c = (row_at c.requires.0 _ c.loop-i-test.true, c.requires.0.few)
 
 pub overflow_cast-i : goal.overflow_cast-i
-overflow_cast-i c =
-    omega (arith, c.loop-i-test.true, c.requires.0.count)
+overflow_cast-i c = omega (arith, c.requires.0.count)
 
-pub put_subtask-k-requires : goal.put_subtask-k-requires
-put_subtask-k-requires c = (
-  omega (arith, c.row_of-row.ensures.1, c.requires.0.few),
-  line_room _ _ _ c.loop-i.invariant
-      (record { below = c.loop-i-test.true; time_is = c.from.ensures; row_is = c.row_of-row.ensures.0 }),
+pub put_line-requires : goal.put_line-requires
+put_line-requires c = (
+  c.shown-row.ensures.1,
+  line_room _ _ _ c.loop-i.invariant.1
+      (record { below = c.loop-i-test.true; time_is = c.from.ensures; row_is = c.shown-row.ensures.0 }),
 )
 
 pub loop-i-preserved : goal.loop-i-preserved
-loop-i-preserved c =
-    lines_next _ _ _ c.loop-i.invariant
-    (record { below = c.loop-i-test.true; time_is = c.from.ensures; row_is = c.row_of-row.ensures.0 })
-    c.put_subtask-k.ensures
-
-pub shape_of-text : goal.shape_of-text
-shape_of-text c = c.loop-i.invariant.remain.same
+loop-i-preserved c = (
+  c.put_line.ensures.same_room ∙ c.loop-i.invariant.0,
+  lines_next _ _ _ c.loop-i.invariant.1 (record { below = c.loop-i-test.true; time_is = c.from.ensures; row_is = c.shown-row.ensures.0 }) c.put_line.ensures.stands,
+)
 
 pub returns : goal.returns
-returns c = lines_end _ _ _ c.loop-i-test.false c.loop-i.invariant
+returns c = record { same_room = c.loop-i.invariant.0; stands = lines_end _ _ _ c.loop-i-test.false c.loop-i.invariant.1 }

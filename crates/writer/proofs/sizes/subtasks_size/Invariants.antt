@@ -3,4 +3,4 @@ use Rattle.writer.proofs.SubtaskTexts.{LinesCounted}
 use Rattle.writer.proofs.sizes.subtasks_size.Given as goal
 
 abbrev pub invariant-loop-i : goal.invariant-loop-i
-invariant-loop-i l = LinesCounted l.times l.begins l.numbers l.size l.i
+invariant-loop-i l = LinesCounted l.times l.predecessors.begins.now l.predecessors.numbers.now l.size l.i

@@ -1,6 +1,6 @@
--- `row_of`: the row of a subtask is a part of the table. Assumes nothing.
+-- `of`: the row of a subtask is a part of the table. Assumes nothing.
 use Rattle.writer.proofs.TableRows.{row_rises, row_inside, row_part}
-use Rattle.writer.proofs.rows.row_of.Goals as goal
+use Rattle.writer.proofs.rows.Predecessors.of.Goals as goal
 
 pub slice_bounds-result-count : goal.slice_bounds-result-count
 slice_bounds-result-count c =
