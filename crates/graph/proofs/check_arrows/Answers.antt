@@ -39,9 +39,6 @@ returns-in-Ok c =
     let once : Before 7 (arrow_rows c.args.times.now c.args.arrows.now) = before_7 _ _ (joins (goal.at.returns-in-Ok c).Else-not-all_join_two) c.in_default.ensures in
     sound (accepted _ _ once (joins (goal.at.returns-in-Ok c).Else-not-all_join_two).tidy c.in-Ok.ensures) c.link.ensures c.in-Ok.ensures
 
-pub lowest_on_cycle-requires : goal.lowest_on_cycle-requires
-lowest_on_cycle-requires c = (c.in-Err.ensures.is, c.in-Err.ensures.below)
-
 -- a subtask's number is no larger than 256
 pub overflow_cast-result : goal.overflow_cast-result
 overflow_cast-result c =
