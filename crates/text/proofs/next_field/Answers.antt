@@ -12,9 +12,6 @@ none (b ∷ d) e = absurd (omega arith)
 whole : (s : List ℕ) (at end : ℕ) → end ≡ at + length (digits (drop at s)) → take (end - at) (drop at s) ≡ digits (drop at s)
 whole s at end q = rw (q, add-sub_cancel_left) (digits_part (drop at s))
 
-pub returns-then-end-at : goal.returns-then-end-at
-returns-then-end-at c = none (digits (drop c.args.at c.args.text.now)) (omega arith)
-
 pub slice_bounds-result-end-else-end-at : goal.slice_bounds-result-end-else-end-at
 slice_bounds-result-end-else-end-at c = omega (arith, digits_within c.args.text.now c.args.at _ refl (omega arith))
 
