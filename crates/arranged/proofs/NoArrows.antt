@@ -1,16 +1,11 @@
 -- Those that no arrow has at one side: marked arrow by arrow, put to the front of a row one by one; in an accepted graph they are those without
 -- successors, or without predecessors. Assumes nothing.
-use mathlib.Core.Path.{◌≡◌, refl, sym, ap, ap₂, ◌∙◌}
-use mathlib.Core.Bool.{Bool, true, false, cond}
-use mathlib.Core.List.{List, [], ◌∷◌, ◌++◌, append-nil}
-use Prim.Native.Nat.{ℕ, zero, suc, ◌+◌, ◌≤◌, ◌<◌, min}
-use native.Mathlib.Omega.{arith}
+use Rattle.std.proofs.Common.{◌≡◌, refl, sym, ap, ap₂, ◌∙◌, Bool, true, false, cond, List, [], ◌∷◌, ◌++◌, append-nil, ℕ, zero, suc, ◌+◌, ◌≤◌, ◌<◌, min, arith, eqb, length, get_or, set, take, drop, replicate, length-set, length-append, take-suc, drop-cons, take_at, get_or-set_same, get_or-set_other, eq-eqb, ne_eqb, eqb-true}
 use native.Mathlib.Decide.{ℕ_discrete}
 use mathlib.Core.Logic.{by_cases}
-use lib.Dec.{eqb}
-use lib.ListN.{length, get_or, set, take, drop, replicate, length-set, length-append, length-replicate, get_or-replicate}
-use lib.Seq.{take-suc, take-length, drop-cons, append_snoc, take_at, set_at, get_or-set_same, get_or-set_other}
-use borrow.Author.Tests.{eq-eqb, ne_eqb, eqb-true, eqb-false}
+use lib.ListN.{length-replicate, get_or-replicate}
+use lib.Seq.{take-length, append_snoc, set_at}
+use borrow.Author.Tests.{eqb-false}
 use Rattle.terms.specs.Graphs.{from_of, to_of}
 use Rattle.terms.specs.Arrangements.{has_arrow, passing, predecessors_of, successors_of, is_none, lasts_of, firsts_of}
 use Rattle.theory.specs.Sound.{SoundGraph}

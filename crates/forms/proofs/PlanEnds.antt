@@ -1,7 +1,7 @@
 -- Where a plan ends. Assumes nothing.
 use Rattle.std.proofs.Common.{◌≡◌, refl, ap, List, ℕ, zero, suc, ◌+◌, ◌-◌, ◌≤◌, max, length, get_or, arith, add-one}
-use Rattle.std.proofs.Math.Logic.{by_cases}
 use Rattle.std.proofs.Math.Decide.{dec_le, ℕ_discrete}
+use Rattle.std.proofs.Math.Logic.{by_cases}
 use Rattle.terms.specs.Graphs.{Among, time_of}
 use Rattle.terms.specs.Plans.{not_placed, processor_of, start_of, end_of, EndsAt}
 use Rattle.terms.specs.declared.Entry.{Entry}

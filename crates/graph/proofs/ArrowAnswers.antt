@@ -1,6 +1,5 @@
 -- From what the scans and the order say to the answer of the rows 4 to 7, and of 4 alone. Assumes nothing.
-use Rattle.std.proofs.Common.{refl, ℕ, ◌+◌, ◌≤◌, ◌<◌, false, true, List, [], ◌∷◌, length, arith}
-use Rattle.std.specs.Prelude.{◌≢◌, Some, None}
+use Rattle.std.proofs.Common.{refl, ℕ, ◌+◌, ◌≤◌, ◌<◌, false, true, List, [], ◌∷◌, length, arith, ◌≢◌, Some, None}
 use mathlib.Core.Logic.Dec
 use mathlib.Core.Logic.{by_cases}
 use native.Mathlib.Decide.{dec_le}

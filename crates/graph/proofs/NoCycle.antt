@@ -1,9 +1,5 @@
 -- In a row with predecessors first no subtask is on a cycle. Assumes nothing.
-use mathlib.Core.Path.{◌≡◌, sym, ◌∙◌}
-use mathlib.Core.List.{List}
-use Prim.Native.Nat.{ℕ, ◌<◌}
-use native.Mathlib.Omega.{arith}
-use lib.ListN.{length, get_or}
+use Rattle.std.proofs.Common.{◌≡◌, sym, ◌∙◌, List, ℕ, ◌<◌, arith, length, get_or}
 use Rattle.terms.specs.Graphs.{Among, from_of, to_of, LeadsTo, step, more}
 use Rattle.graph.specs.Chains.{Tidy}
 use Rattle.graph.specs.Ordered.{StandsBelow, Ordered}

@@ -1,7 +1,5 @@
 -- What the checks of a graph say, asked one after the other. Assumes nothing.
-use mathlib.Core.List.{List, ◌++◌}
-use Prim.Native.Nat.{ℕ, ◌≤◌}
-use lib.ListN.{length}
+use Rattle.std.proofs.Common.{List, ◌++◌, ℕ, ◌≤◌, length, Result, Ok, Err}
 use Rattle.terms.specs.Rows.{Row, Accepted, RefusedBy}
 use Rattle.terms.specs.Refusals.{graph_rows}
 use Rattle.terms.specs.Replies.{IsCheck}
@@ -13,7 +11,6 @@ use Rattle.graph.specs.Links.{Linked}
 use Rattle.graph.specs.declared.chains.Links.{Links}
 use Rattle.graph.specs.Ordered.{Ordered}
 use Rattle.graph.specs.Finds.{Finds, refused, sound}
-use Rattle.std.specs.Prelude.{Result, Ok, Err}
 
 -- where the first rows accept, all answer as the later ones do
 pub check_later : (rows later : List Row) (reply : Result (Unit {0}) Refusal) → Accepted rows → IsCheck later reply → IsCheck (rows ++ later) reply

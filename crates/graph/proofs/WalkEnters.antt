@@ -1,13 +1,5 @@
 -- A step of the walk that comes to a new subtask: a root, or where the arrow at the cursor comes from. Assumes nothing.
-use mathlib.Core.Path.{◌≡◌, sym, ap, ◌∙◌}
-use mathlib.Core.Logic.{◌≢◌, ⊎_elim}
-use mathlib.Core.List.{List}
-use Prim.Native.Nat.{ℕ, ◌+◌, ◌≤◌, ◌<◌}
-use native.Mathlib.Omega.{arith}
-use native.Mathlib.Nat.{eq-or-lt_of_le}
-use lib.ListN.{length, get_or, set, length-set}
-use lib.Seq.{get_or-set_same, get_or-set_other}
-use borrow.Author.Count.{below_more}
+use Rattle.std.proofs.Common.{◌≡◌, sym, ap, ◌∙◌, ◌≢◌, ⊎_elim, List, ℕ, ◌+◌, ◌≤◌, ◌<◌, arith, eq-or-lt_of_le, length, get_or, set, length-set, get_or-set_same, get_or-set_other, below_more}
 use Rattle.terms.specs.Graphs.{Among, to_of}
 use Rattle.theory.proofs.Stores.{read_set}
 use Rattle.theory.proofs.Tallies.{tally}

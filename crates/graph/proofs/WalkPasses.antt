@@ -1,11 +1,6 @@
 -- The walk looks at an arrow: it is passed where it comes from a subtask that is placed, and closes a cycle where from one that is on the way.
 -- Assumes nothing.
-use mathlib.Core.Path.{◌≡◌, refl, sym, ap, ◌∙◌, subst}
-use mathlib.Core.Logic.{◌≢◌}
-use mathlib.Core.List.{List}
-use Prim.Native.Nat.{ℕ, zero, suc, ◌+◌, ◌-◌, ◌<◌}
-use native.Mathlib.Omega.{arith}
-use lib.ListN.{length, get_or}
+use Rattle.std.proofs.Common.{◌≡◌, refl, sym, ap, ◌∙◌, subst, ◌≢◌, List, ℕ, zero, suc, ◌+◌, ◌-◌, ◌<◌, arith, length, get_or}
 use Rattle.terms.specs.Graphs.{Among, from_of, to_of, LeadsTo, step, more}
 use Rattle.graph.proofs.Chained.{Looks, along_next, next_less, passed_now}
 use Rattle.graph.specs.Ordered.{Closes}

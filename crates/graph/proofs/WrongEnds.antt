@@ -1,7 +1,5 @@
 -- Whether every arrow goes from one subtask to another, arrow by arrow. Assumes nothing.
-use Rattle.std.proofs.Common.{ℕ, ◌+◌, Bool, true, false, List, [], get_or, arith}
-use mathlib.Core.Bool.{◌&&◌}
-use borrow.Author.Count.{below_more}
+use Rattle.std.proofs.Common.{ℕ, ◌+◌, Bool, true, false, List, [], get_or, arith, ◌&&◌, below_more}
 use Rattle.terms.specs.Graphs.{from_of, to_of}
 use Rattle.theory.specs.Flags.{Says}
 use Rattle.graph.specs.Scans.{TwoOf, AllJoin}

@@ -1,10 +1,5 @@
 -- What the table of a join answers, piece by piece. Assumes nothing.
-use mathlib.Core.Path.{◌≡◌, sym, ap, ◌∙◌}
-use mathlib.Core.Logic.{inl, inr}
-use mathlib.Core.List.{List, [], ◌∷◌, ◌++◌, append_assoc}
-use Prim.Native.Nat.{ℕ, ◌+◌, ◌≤◌, ◌<◌}
-use native.Mathlib.Omega.{arith}
-use lib.ListN.{length, length-append}
+use Rattle.std.proofs.Common.{◌≡◌, sym, ap, ◌∙◌, inl, inr, List, [], ◌∷◌, ◌++◌, append_assoc, ℕ, ◌+◌, ◌≤◌, ◌<◌, arith, length, length-append}
 use Rattle.terms.specs.Rows.{Accepted, RefusedBy, Row, row}
 use Rattle.terms.specs.Refusals.{graph_rows, join_rows}
 use Rattle.terms.specs.Joins.{Graph, size, joined_to}

@@ -1,11 +1,7 @@
 -- What is put down is the joined graph, and from there to the reply. Assumes nothing.
-use mathlib.Core.Path.{◌≡◌, refl, sym, ap, ap₂, ◌∙◌}
-use mathlib.Core.List.{List, [], ◌∷◌, ◌++◌, map, map-append}
-use Prim.Native.Nat.{ℕ, zero, suc, ◌+◌, ◌*◌, ◌≤◌, ◌<◌, min}
-use native.Mathlib.Omega.{arith}
-use native.Mathlib.Nat.{zero-add, mul-le-mul}
-use lib.ListN.{length, get_or, take, drop, length-append}
-use lib.Seq.{sets, sets-eq, length-sets, length-take-le}
+use Rattle.std.proofs.Common.{◌≡◌, refl, sym, ap, ap₂, ◌∙◌, List, [], ◌∷◌, ◌++◌, map, ℕ, zero, suc, ◌+◌, ◌*◌, ◌≤◌, ◌<◌, min, arith, zero-add, mul-le-mul, length, get_or, take, drop, length-append, length-take-le, Result, Ok, Err}
+use mathlib.Core.List.{map-append}
+use lib.Seq.{sets, sets-eq, length-sets}
 use Rattle.terms.specs.Rows.{Accepted, RefusedBy}
 use Rattle.terms.specs.Arrangements.{predecessors_of, successors_of, is_none, lasts_of, firsts_of, for_each, out_of, sorted_by_from}
 use Rattle.terms.specs.Replies.{IsJoined}
@@ -22,7 +18,6 @@ use Rattle.joins.specs.Tables.{both_rows, made_rows, Joinable}
 use Rattle.joins.specs.Puts.{Puts, rows_arrows, Moves}
 use Rattle.joins.proofs.RowByRow.{puts_then}
 use Rattle.joins.proofs.Answered.{both_accepted, both_sound, both_refuse, made_refused, made_accepted, made_room}
-use Rattle.std.specs.Prelude.{Result, Ok, Err}
 use Rattle.terms.specs.declared.GraphSize.{GraphSize}
 
 -- ---- the targets, and those that arrows are added to them from

@@ -1,9 +1,5 @@
 -- The rows that the arrangement by "from" leaves of an accepted graph are those of its successors. Assumes nothing.
-use mathlib.Core.Path.{◌≡◌, ap, ◌∙◌}
-use mathlib.Core.List.{List, map}
-use Prim.Native.Nat.{ℕ, ◌+◌, ◌-◌, ◌≤◌, ◌<◌}
-use native.Mathlib.Omega.{arith}
-use lib.ListN.{length, get_or, replicate}
+use Rattle.std.proofs.Common.{◌≡◌, ap, ◌∙◌, List, map, ℕ, ◌+◌, ◌-◌, ◌≤◌, ◌<◌, arith, length, get_or, replicate, Result}
 use Rattle.terms.specs.Graphs.{Among}
 use Rattle.terms.specs.Arrangements.{has_arrow, successors_of, targets_of, out_of, row_of}
 use Rattle.terms.specs.Replies.{IsArranged}
@@ -15,7 +11,6 @@ use Rattle.theory.proofs.TimesOver.{targets_accepted}
 use Rattle.theory.proofs.OneArranged.{begin_within}
 use Rattle.arranged.proofs.OwnTables.{InTables, in_tables}
 use Rattle.joins.specs.Puts.{rows_arrows, SmallRows}
-use Rattle.std.specs.Prelude.{Result}
 use Rattle.terms.specs.declared.Refusal.{Refusal}
 
 -- the two tables hold the rows of successors of an accepted graph

@@ -1,13 +1,8 @@
 -- What the tables need of a sound graph and an order; and the beginning, with nothing placed. Assumes nothing.
-use mathlib.Core.Path.{◌≡◌, refl, ap}
-use mathlib.Core.Logic.{by_cases}
-use mathlib.Core.List.{List}
-use mathlib.Core.Bool.{Bool}
-use Rattle.std.specs.Prelude.{None}
-use Prim.Native.Nat.{ℕ, zero, suc, ◌-◌, ◌<◌}
-use native.Mathlib.Omega.{arith}
-use native.Mathlib.Decide.{dec_le}
-use lib.ListN.{length, get_or, replicate, length-replicate, get_or-replicate}
+use Rattle.std.proofs.Common.{◌≡◌, refl, ap, List, Bool, None, ℕ, zero, suc, ◌-◌, ◌<◌, arith, length, get_or, replicate}
+use Rattle.std.proofs.Math.Decide.{dec_le}
+use Rattle.std.proofs.Math.ListN.{length-replicate, get_or-replicate}
+use Rattle.std.proofs.Math.Logic.{by_cases}
 use Rattle.terms.specs.Graphs.{from_of, to_of}
 use Rattle.terms.specs.Plans.{not_placed, processor_of, start_of}
 use Rattle.terms.specs.ListRule.{IsOrder, begin}

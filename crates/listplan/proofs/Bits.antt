@@ -1,7 +1,6 @@
 -- A row of marks: what is read from it after a store. Assumes nothing.
-use Rattle.std.proofs.Common.{◌≡◌, refl, sym, ap, subst, ◌∙◌, List, ℕ, zero, suc, ◌<◌, Bool, true, false, length, get_or, set, replicate}
+use Rattle.std.proofs.Common.{◌≡◌, refl, sym, ap, subst, ◌∙◌, List, ℕ, zero, suc, ◌<◌, Bool, true, false, length, get_or, set, replicate, get_or-set_same, get_or-set_other}
 use Rattle.std.proofs.Math.Decide.{ℕ_discrete}
-use lib.Seq.{get_or-set_same, get_or-set_other}
 
 -- by whether the place is the one stored at
 pub read_bit : (Q : Bool → Type 0) (l : List Bool) (i : ℕ) (a : Bool) (x : ℕ) → i < length l → (x ≡ i → Q a) → (¬ (x ≡ i) → Q (get_or l x false))

@@ -1,9 +1,6 @@
 -- The chains of the arrows, and how many go to each subtask, arrow by arrow. Assumes nothing.
-use mathlib.Core.Path.{◌≡◌, sym, ap, ◌∙◌}
-use mathlib.Core.List.{List}
-use Prim.Native.Nat.{ℕ, suc, ◌+◌, ◌≤◌, ◌<◌}
-use native.Mathlib.Omega.{arith}
-use lib.ListN.{length, get_or, set, replicate, length-set, length-replicate}
+use Rattle.std.proofs.Common.{◌≡◌, sym, ap, ◌∙◌, List, ℕ, suc, ◌+◌, ◌≤◌, ◌<◌, arith, length, get_or, set, replicate, length-set}
+use Rattle.std.proofs.Math.ListN.{length-replicate}
 use Rattle.terms.specs.Graphs.{from_of, to_of}
 use Rattle.theory.specs.Counting.{Count}
 use Rattle.theory.proofs.Stores.{read_set, read_noughts}

@@ -1,12 +1,7 @@
 -- The clock moves to the soonest end; where there is none the plan is made. Assumes nothing.
-use mathlib.Core.Path.{◌≡◌, ◌∙◌}
-use mathlib.Core.Logic.{◌≢◌, by_cases}
-use mathlib.Core.List.{List}
-use mathlib.Core.Bool.{Bool}
-use Prim.Native.Nat.{ℕ, suc, ◌≤◌, ◌<◌}
-use native.Mathlib.Omega.{arith}
-use native.Mathlib.Decide.{dec_le, ℕ_discrete}
-use lib.ListN.{get_or}
+use Rattle.std.proofs.Common.{◌≡◌, ◌∙◌, ◌≢◌, List, Bool, ℕ, suc, ◌≤◌, ◌<◌, arith, get_or}
+use Rattle.std.proofs.Math.Decide.{dec_le, ℕ_discrete}
+use Rattle.std.proofs.Math.Logic.{by_cases}
 use Rattle.terms.specs.Graphs.{Among, IsSubtask}
 use Rattle.terms.specs.Paths.{total_work}
 use Rattle.terms.specs.Plans.{processor_of, end_of, Placed, IdleAt}

@@ -1,12 +1,7 @@
 -- An arrow is counted off: its `to` waits for one subtask fewer, and where it waits for none it can go. Assumes nothing.
-use mathlib.Core.Path.{◌≡◌, refl, sym, ap, ◌∙◌}
-use mathlib.Core.Logic.{◌≢◌, by_cases}
-use mathlib.Core.List.{List}
-use mathlib.Core.Bool.{Bool, true}
-use Prim.Native.Nat.{ℕ, ◌-◌, ◌≤◌, ◌<◌}
-use native.Mathlib.Omega.{arith}
-use native.Mathlib.Decide.{dec_le, dec_lt, ℕ_discrete}
-use lib.ListN.{length, get_or, set, length-set}
+use Rattle.std.proofs.Common.{◌≡◌, refl, sym, ap, ◌∙◌, ◌≢◌, List, Bool, true, ℕ, ◌-◌, ◌≤◌, ◌<◌, arith, length, get_or, set, length-set}
+use Rattle.std.proofs.Math.Decide.{dec_le, dec_lt, ℕ_discrete}
+use Rattle.std.proofs.Math.Logic.{by_cases}
 use Rattle.terms.specs.Graphs.{IsSubtask, from_of, to_of}
 use Rattle.terms.specs.declared.Entry.{Entry}
 use Rattle.theory.specs.First.{NoneBelow}

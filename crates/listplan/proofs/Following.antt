@@ -1,9 +1,5 @@
 -- What holds whenever the rule is followed a step further: the invariant of the loop that makes the plan. Assumes nothing.
-use mathlib.Core.List.{List}
-use mathlib.Core.Bool.{Bool}
-use Rattle.std.specs.Prelude.{Option}
-use Prim.Native.Nat.{ℕ, ◌+◌, ◌≤◌}
-use lib.ListN.{length}
+use Rattle.std.proofs.Common.{List, Bool, Option, ℕ, ◌+◌, ◌≤◌, length}
 use Rattle.terms.specs.declared.Entry.{Entry}
 use Rattle.terms.specs.declared.Processor.{Processor}
 use Rattle.theory.specs.First.{NoneBelow}

@@ -1,6 +1,5 @@
 -- The list plan with its end in the lent row, or the refusal of the table. Assumes nothing.
-use Rattle.std.proofs.Common.{◌≡◌, refl, Ok, Err, List, ◌++◌, ℕ, ◌≤◌, ◌<◌, min, length, take, drop, arith}
-use lib.Seq.{take_at, drop_at}
+use Rattle.std.proofs.Common.{◌≡◌, refl, Ok, Err, List, ◌++◌, ℕ, ◌≤◌, ◌<◌, min, length, take, drop, arith, take_at, drop_at}
 use Rattle.terms.specs.Rows.{Accepted, RefusedBy}
 use Rattle.terms.specs.Graphs.{Among, In16Bits}
 use Rattle.terms.specs.Plans.{EndsAt}

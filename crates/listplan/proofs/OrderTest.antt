@@ -1,8 +1,8 @@
 -- A row of marks for the subtasks that an order has named so far: it tells whether one stands twice. Assumes nothing.
 use Rattle.std.proofs.Common.{◌≡◌, ◌≢◌, refl, sym, ap, ◌∙◌, List, ℕ, ◌+◌, ◌≤◌, ◌<◌, Bool, true, false, length, get_or, set, replicate, length-set, arith}
-use Rattle.std.proofs.Math.Logic.{by_cases}
 use Rattle.std.proofs.Math.Decide.{ℕ_discrete}
-use lib.ListN.{length-replicate}
+use Rattle.std.proofs.Math.ListN.{length-replicate}
+use Rattle.std.proofs.Math.Logic.{by_cases}
 use Rattle.terms.specs.Graphs.{IsSubtask}
 use Rattle.terms.specs.ListRule.{IsOrder}
 use Rattle.listplan.proofs.Bits.{read_bit, all_unmarked}

@@ -1,12 +1,8 @@
 -- The ranks and the first marks grow by a place of the order. Assumes nothing.
-use mathlib.Core.Path.{◌≡◌, refl, sym, ap, ◌∙◌}
-use mathlib.Core.Logic.{◌≢◌, by_cases}
-use mathlib.Core.List.{List}
-use mathlib.Core.Bool.{Bool, true, false}
-use Prim.Native.Nat.{ℕ, ◌+◌, ◌≤◌, ◌<◌}
-use native.Mathlib.Omega.{arith}
-use native.Mathlib.Decide.{ℕ_discrete}
-use lib.ListN.{length, get_or, set, replicate, length-set, length-replicate}
+use Rattle.std.proofs.Common.{◌≡◌, refl, sym, ap, ◌∙◌, ◌≢◌, List, Bool, true, false, ℕ, ◌+◌, ◌≤◌, ◌<◌, arith, length, get_or, set, replicate, length-set}
+use Rattle.std.proofs.Math.Decide.{ℕ_discrete}
+use Rattle.std.proofs.Math.ListN.{length-replicate}
+use Rattle.std.proofs.Math.Logic.{by_cases}
 use Rattle.theory.proofs.Stores.{read_set}
 use Rattle.listplan.specs.Tables.{Distinct, Ranks, Mark, Sources}
 use Rattle.listplan.proofs.Bits.{read_bit, all_unmarked, none_true}

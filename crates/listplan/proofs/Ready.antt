@@ -1,13 +1,7 @@
 -- The tables say who is ready and which processor is free. Assumes nothing.
-use mathlib.Core.Path.{◌≡◌, refl}
-use mathlib.Core.Logic.{◌⊎◌, inl, inr, by_cases}
-use mathlib.Core.List.{List}
-use mathlib.Core.Bool.{Bool}
-use Rattle.std.specs.Prelude.{None}
-use Prim.Native.Nat.{ℕ, ◌≤◌, ◌<◌}
-use native.Mathlib.Omega.{arith}
-use native.Mathlib.Decide.{dec_le}
-use lib.ListN.{length, get_or}
+use Rattle.std.proofs.Common.{◌≡◌, refl, ◌⊎◌, inl, inr, List, Bool, None, ℕ, ◌≤◌, ◌<◌, arith, length, get_or}
+use Rattle.std.proofs.Math.Decide.{dec_le}
+use Rattle.std.proofs.Math.Logic.{by_cases}
 use Rattle.terms.specs.Graphs.{Among, IsSubtask, from_of, to_of}
 use Rattle.terms.specs.Plans.{processor_of, start_of, end_of, Placed, ReadyAt, FreeAt, IdleAt}
 use Rattle.terms.specs.declared.Entry.{Entry}

@@ -41,7 +41,7 @@ impl Marks {
         self.groups[x / 16] = true;
     }
 
-    // The first of the first n places that is marked. Those below `low` are known not to be.
+    // The first of the first n places that is marked. Those below `low` are known not to be. (Groups are passed over: no `for` has that step.)
     pub fn first(&self, low: usize, n: usize) -> Option<usize>
         requires { (n ≤ 256) × NoneBelow (IsMarked self.now) n low }
         ensures { FirstMark self.now n result }
@@ -65,9 +65,9 @@ impl Marks {
         ensures { self.new ≡ set self.old x false }
     {
         self.places[x] = false;
-        let group = x / 16;
-        if !self.places[group * 16..group * 16 + 16].contains(&true) {
-            self.groups[group] = false;
+        let end = x / 16 * 16 + 16;
+        if !self.places[x + 1..end].contains(&true) {
+            self.groups[x / 16] = false;
         }
     }
 }

@@ -1,7 +1,6 @@
 // What starts next.
-ghost use Rattle.std.specs.Prelude.{◌≡◌, ◌+◌, ◌≤◌, ◌<◌, length};
-ghost use Rattle.terms.specs.Graphs.{Among, IsSubtask, time_of};
-ghost use Rattle.terms.specs.ListRule.{put};
+ghost use Rattle.std.specs.Prelude.{◌+◌, ◌≤◌};
+ghost use Rattle.terms.specs.Graphs.{Among};
 ghost use Rattle.theory.specs.First.{NoneBelow};
 ghost use Rattle.listplan.specs.Making.{IsMarked, IsFree, NextStart};
 

@@ -1,11 +1,6 @@
 -- The entry at a place of a nest's row: a graph or none, an opener of a kind or none. Assumes nothing.
-use mathlib.Core.Path.{◌≡◌, sym, ap, ◌∙◌}
-use mathlib.Core.List.{List, [], ◌∷◌}
-use Prim.Native.Nat.{ℕ, suc, ◌+◌, ◌-◌, ◌≤◌, ◌<◌}
-use native.Mathlib.Omega.{arith}
-use lib.ListN.{length, get_or, drop, length-map, length-drop, drop_of_length-le}
-use lib.Seq.{drop-cons}
-use Rattle.std.specs.Prelude.{Some, None}
+use Rattle.std.proofs.Common.{◌≡◌, sym, ap, ◌∙◌, List, [], ◌∷◌, ℕ, suc, ◌+◌, ◌-◌, ◌≤◌, ◌<◌, arith, length, get_or, drop, length-drop, drop_of_length-le, drop-cons, Some, None}
+use lib.ListN.{length-map}
 use Rattle.terms.specs.Graphs.{Among}
 use Rattle.terms.specs.Nests.{InRange, three, numbers_of}
 use Rattle.nests.specs.Walks.{entries_from, weights_of, BeginsGraph, BeginsOpener, CountsAt, GraphAt}

@@ -1,10 +1,5 @@
 -- Members that entries begin with: some, then some more; some, and so the others behind them; how large C and P are. Assumes nothing.
-use mathlib.Core.Path.{◌≡◌, refl, sym, ap, ap₂, ◌∙◌}
-use mathlib.Core.Logic.{◌⊎◌, inl, inr}
-use mathlib.Core.List.{List, ◌∷◌, ◌++◌, append_assoc, append-nil}
-use Prim.Native.Nat.{ℕ, zero, suc, ◌+◌, ◌*◌, ◌≤◌, max}
-use native.Mathlib.Omega.{arith}
-use lib.ListN.{length, length-append}
+use Rattle.std.proofs.Common.{◌≡◌, refl, sym, ap, ap₂, ◌∙◌, ◌⊎◌, inl, inr, List, ◌∷◌, ◌++◌, append_assoc, append-nil, ℕ, zero, suc, ◌+◌, ◌*◌, ◌≤◌, max, arith, length, length-append}
 use Rattle.terms.specs.Joins.{Way}
 use Rattle.terms.specs.Nests.{other, Members, none, graph, opener, count, depth, work_of, together, path_of}
 use Rattle.terms.specs.Nests.{graph_entry, opener_entry, written, Ruled}

@@ -1,7 +1,5 @@
 -- How an opener's members are passed one by one, along either way. Assumes nothing.
-use Rattle.std.proofs.Common.{◌≡◌, sym, ◌∙◌, ℕ, ◌+◌, ◌-◌, ◌≤◌, ◌<◌, List, length, arith}
-use Rattle.std.specs.Prelude.{Some, None}
-use mathlib.Core.Logic.{⊎_elim}
+use Rattle.std.proofs.Common.{◌≡◌, sym, ◌∙◌, ℕ, ◌+◌, ◌-◌, ◌≤◌, ◌<◌, List, length, arith, Some, None, ⊎_elim}
 use Rattle.terms.specs.Joins.{Way}
 use Rattle.terms.specs.Nests.{other, together, kind_of}
 use Rattle.theory.proofs.OneNest.{same_opener}

@@ -1,10 +1,5 @@
 -- From a walk over the whole row to the figures of the nest, or to 32. Assumes nothing.
-use mathlib.Core.Path.{refl, sym, ap, ap₂, ◌∙◌}
-use mathlib.Core.List.{List, [], ◌∷◌, append-nil}
-use Prim.Native.Nat.{ℕ, ◌≤◌, ◌<◌}
-use native.Mathlib.Omega.{arith}
-use lib.ListN.{length}
-use Rattle.std.specs.Prelude.{Ok, Err, Some, None}
+use Rattle.std.proofs.Common.{refl, sym, ap, ap₂, ◌∙◌, List, [], ◌∷◌, append-nil, ℕ, ◌≤◌, ◌<◌, arith, length, Ok, Err, Some, None}
 use Rattle.terms.specs.Joins.{end_to_end}
 use Rattle.terms.specs.Nests.{Nest, count, work_of, path_of, opener_entry, written, IsNest, SomeNest}
 use Rattle.terms.specs.Refusals.{nest_rows}

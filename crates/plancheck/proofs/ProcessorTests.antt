@@ -1,7 +1,7 @@
 -- 16 and 17, asked of the processors: from what the exact scans or the sweep say to the answer of the table. Assumes nothing.
 use Rattle.std.proofs.Common.{◌≡◌, refl, sym, ◌⊎◌, inl, inr, List, ℕ, ◌≤◌, ◌<◌, None, Some, length, get_or, arith}
-use Rattle.std.proofs.Math.Logic.{by_cases}
 use Rattle.std.proofs.Math.Decide.{dec_le, dec_lt}
+use Rattle.std.proofs.Math.Logic.{by_cases}
 use Rattle.terms.specs.Rows.{Accepted}
 use Rattle.terms.specs.Graphs.{IsSubtask, from_of, Precedes}
 use Rattle.terms.specs.Plans.{processor_of, start_of, end_of, Placed, RunsAt, ReadyAt, IdleAt}

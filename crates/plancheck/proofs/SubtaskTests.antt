@@ -1,7 +1,7 @@
 -- 13 to 15, asked of each subtask: from what the scans say to the answer of the table. Assumes nothing.
 use Rattle.std.proofs.Common.{◌≡◌, refl, List, ℕ, ◌≤◌, ◌<◌, None, Some, length, get_or, arith}
-use Rattle.std.proofs.Math.Logic.{by_cases}
 use Rattle.std.proofs.Math.Decide.{dec_le}
+use Rattle.std.proofs.Math.Logic.{by_cases}
 use Rattle.terms.specs.Rows.{RefusedBy, Smallest}
 use Rattle.terms.specs.Graphs.{Among, IsSubtask, from_of, Precedes}
 use Rattle.terms.specs.Plans.{processor_of, start_of, end_of}

@@ -1,12 +1,8 @@
 -- One sweep in the order of the starts shows that no two subtasks clash and that none waits while a processor is free. Assumes nothing.
-use mathlib.Core.Path.{◌≡◌, refl, sym, ap, ◌∙◌, subst}
-use mathlib.Core.Logic.{◌≢◌, ⊎_elim, by_cases}
-use mathlib.Core.List.{List, []}
-use Prim.Native.Nat.{ℕ, zero, suc, ◌+◌, ◌%◌, ◌≤◌, ◌<◌}
-use native.Mathlib.Omega.{arith}
-use native.Mathlib.Decide.{dec_lt, ℕ_discrete}
-use lib.ListN.{length, get_or, set, replicate, length-set, length-replicate}
-use borrow.Author.Count.{below_more}
+use Rattle.std.proofs.Common.{◌≡◌, refl, sym, ap, ◌∙◌, subst, ◌≢◌, ⊎_elim, List, [], ℕ, zero, suc, ◌+◌, ◌%◌, ◌≤◌, ◌<◌, arith, length, get_or, set, replicate, length-set, below_more}
+use Rattle.std.proofs.Math.Decide.{dec_lt, ℕ_discrete}
+use Rattle.std.proofs.Math.ListN.{length-replicate}
+use Rattle.std.proofs.Math.Logic.{by_cases}
 use Rattle.terms.specs.Graphs.{Among, IsSubtask}
 use Rattle.terms.specs.Plans.{processor_of, start_of, end_of, FreeAt}
 use Rattle.terms.specs.declared.Entry.{Entry}

@@ -2,6 +2,7 @@
 #![tactic(auto)]
 
 mod exact;
+mod placed;
 mod read;
 mod scan;
 mod sort;
@@ -11,9 +12,8 @@ ghost use Rattle.terms.specs.Refusals.{check_rows};
 ghost use Rattle.terms.specs.Replies.{IsCheck, IsChecked};
 ghost use Rattle.plancheck.specs.Known.{Given};
 
-use crate::exact::{earliest_idle, first_sharing};
+use crate::placed::Placed;
 use crate::scan::{first_early, first_late, first_misplaced, latest_ends};
-use crate::sweep::passes_sweep;
 use forms::last_end;
 use graph::check_on;
 use terms::{Entry, Refusal, Subtask};
@@ -40,13 +40,19 @@ fn check_placing(times: &[u16], arrows: &[[u16; 2]], m: u32, plan: &[Entry]) -> 
     if let Some(subtask) = first_early(plan, &ready) {
         return Err(Refusal::StartEarly(subtask.0 as u32));
     }
-    if passes_sweep(times, plan, &ready, m) {
+    let placed = Placed {
+        times,
+        plan,
+        ready: &ready,
+        m,
+    };
+    if placed.passes_sweep() {
         return Ok(());
     }
-    if let Some(pair) = first_sharing(times, plan) {
+    if let Some(pair) = placed.first_sharing() {
         return Err(Refusal::Overlap(pair.lower.0 as u32, pair.higher.0 as u32));
     }
-    if let Some(instant) = earliest_idle(times, plan, &ready, m) {
+    if let Some(instant) = placed.earliest_idle() {
         return Err(Refusal::Idle(instant));
     }
     Ok(())

@@ -7,7 +7,6 @@ ghost use Rattle.theory.specs.First.{IsFirstSubtask};
 ghost use Rattle.plancheck.specs.Known.{Timed, LatestEnds};
 
 use crate::read::end_of;
-use inputs::{from_at, to_at};
 use terms::{Entry, LATEST_START, Subtask};
 
 // 13: a processor outside 1..m.
@@ -41,9 +40,9 @@ pub fn latest_ends(times: &[u16], arrows: &[[u16; 2]], plan: &[Entry]) -> [u32; 
     ensures { LatestEnds times.now arrows.now plan.now (length arrows.now) result }
 {
     let mut ready = [0u32; 257];
-    for i in 0..arrows.len() {
-        let end = end_of(times, plan, from_at(arrows, i));
-        let to = to_at(arrows, i).0;
+    for &[from, to] in arrows {
+        let end = end_of(times, plan, Subtask(usize::from(from)));
+        let to = usize::from(to);
         ready[to] = ready[to].max(end);
     }
     ready

@@ -40,8 +40,8 @@ returns-in-Some-first_early c =
     answer_15 c.requires (placed_by c.requires (rw c.in_default.is at c.first_misplaced.ensures)) (timed (goal.at.returns-in-Some-first_early c).In_default-first_late)
     c.latest_ends-ready.ensures (rw c.in-Some-first_early.is at c.first_early.ensures) told
 
-pub passes_sweep-requires : goal.passes_sweep-requires
-passes_sweep-requires c = sweepable (known (goal.at.passes_sweep-requires c).In_default-first_early)
+pub invariant_of-placed : goal.invariant_of-placed
+invariant_of-placed c = record { sound = sweepable (known (goal.at.invariant_of-placed c).In_default-first_early) }
 
 pub returns-then-passes_sweep : goal.returns-then-passes_sweep
 unfolding IsCheck
@@ -50,16 +50,10 @@ returns-then-passes_sweep c =
     let swept : ApartAndBusy c.args.times.now c.args.m c.args.plan.now c.latest_ends-ready.result = shown c.if-passes_sweep.true c.passes_sweep.ensures in
     accepted_busy before (busy_swept before swept)
 
-pub first_sharing-requires : goal.first_sharing-requires
-first_sharing-requires c = timed (goal.at.first_sharing-requires c).In_default-first_late
-
 pub returns-in-Some-first_sharing : goal.returns-in-Some-first_sharing
 unfolding IsCheck
 returns-in-Some-first_sharing c =
     answer_16 (known (goal.at.returns-in-Some-first_sharing c).In_default-first_early) (rw c.in-Some-first_sharing.is at c.first_sharing.ensures) told
-
-pub earliest_idle-requires : goal.earliest_idle-requires
-earliest_idle-requires c = (timed (goal.at.earliest_idle-requires c).In_default-first_late, c.latest_ends-ready.ensures.long)
 
 pub returns-in-Some-earliest_idle : goal.returns-in-Some-earliest_idle
 unfolding IsCheck

@@ -1,6 +1,5 @@
 -- `check_made`: the answer of the rows 31 and 11. Assumes nothing.
-use Rattle.std.proofs.Common.{arith}
-use mathlib.Core.Logic.{inl, inr, ⊎_elim}
+use Rattle.std.proofs.Common.{arith, inl, inr, ⊎_elim}
 use Rattle.terms.specs.Replies.{IsCheck}
 use Rattle.terms.specs.declared.Refusal.TheVariants.{JoinedArrows}
 use Rattle.terms.proofs.Decisions.{told}

@@ -1,6 +1,5 @@
 -- `source`: where the arrow at a position comes from. Assumes nothing.
 use Rattle.std.proofs.Common.{arith}
-use native.Mathlib.Omega.{arith}
 use Rattle.terms.specs.Graphs.{from_of}
 use Rattle.graph.proofs.chains.Chained.source.Goals as goal
 

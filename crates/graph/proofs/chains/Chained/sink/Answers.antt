@@ -1,7 +1,7 @@
--- `target`: where the arrow at a position goes to. Assumes nothing.
+-- `sink`: where the arrow at a position goes to. Assumes nothing.
 use Rattle.std.proofs.Common.{arith}
 use Rattle.terms.specs.Graphs.{to_of}
-use Rattle.graph.proofs.chains.Chained.target.Goals as goal
+use Rattle.graph.proofs.chains.Chained.sink.Goals as goal
 
 pub returns : goal.returns
 unfolding to_of

@@ -4,7 +4,7 @@ use mir.Val.{bool_byte}
 use Rattle.terms.specs.Plans.{not_placed}
 use Rattle.terms.specs.Sums.{sum}
 use Rattle.plancheck.proofs.Counts.{one, counted, one_more, one_small}
-use Rattle.plancheck.proofs.exact.running.Goals as goal
+use Rattle.plancheck.proofs.placed.Placed.running.Goals as goal
 
 as_cond : (b : Bool) → bool_byte b ≡ cond b 1 0
 as_cond true = refl
@@ -17,12 +17,12 @@ loop-place-init c = (omega arith, refl)
 pub loop-place-preserved : goal.loop-place-preserved
 loop-place-preserved c =
     let k = c.loop-place.place in
-    let this : c.from-count.result ≡ one c.args.t (get_or c.args.times.now k 0) (get_or c.args.plan.now k not_placed) =
+    let this : c.from-count.result ≡ one c.args.t (get_or c.args.self.now.times.now k 0) (get_or c.args.self.now.plan.now k not_placed) =
     (rw (c.saturating_sub.ensures, c.from-time.ensures) at c.from-count.ensures) ∙ as_cond _ in
-    let small = one_small c.args.t (get_or c.args.times.now k 0) (get_or c.args.plan.now k not_placed) in
-    (omega (arith, c.loop-place.invariant.0, this, small), one_more c.args.t c.args.times.now c.args.plan.now k c.loop-place.invariant.1 this)
+    let small = one_small c.args.t (get_or c.args.self.now.times.now k 0) (get_or c.args.self.now.plan.now k not_placed) in
+    (omega (arith, c.loop-place.invariant.0, this, small), one_more c.args.t c.args.self.now.times.now c.args.self.now.plan.now k c.loop-place.invariant.1 this)
 
 pub returns : goal.returns
 returns c =
-    let whole : length c.args.times.now ≡ c.loop-place.place = omega (arith, c.requires.whole) in
-    rw (counted c.args.t c.args.times.now c.args.plan.now c.requires.whole, whole) c.loop-place.invariant.1
+    let whole : length c.args.self.now.times.now ≡ c.loop-place.place = omega (arith, c.args.self.now.sound.timed.whole) in
+    rw (counted c.args.t c.args.self.now.times.now c.args.self.now.plan.now c.args.self.now.sound.timed.whole, whole) c.loop-place.invariant.1

@@ -3,7 +3,7 @@ use Rattle.std.proofs.Common.{arith, below_more}
 use Rattle.plancheck.specs.Scans.{FirstClash}
 use Rattle.plancheck.proofs.Clashes.{pair_found, no_clashes}
 use Rattle.plancheck.proofs.FirstSubtasks.{first_none}
-use Rattle.plancheck.proofs.exact.first_sharing.Goals as goal
+use Rattle.plancheck.proofs.placed.Placed.first_sharing.Goals as goal
 
 pub returns-in-Some : goal.returns-in-Some
 returns-in-Some c = pair_found c.loop-place.invariant _ (omega arith) (rw c.in-Some.is at c.first_clash.ensures)

@@ -1,6 +1,0 @@
--- `passes_sweep`: what the subtasks that came so far show. Assumes nothing.
-use Rattle.plancheck.proofs.Swept.{Swept}
-use Rattle.plancheck.proofs.sweep.passes_sweep.Given as goal
-
-abbrev pub invariant-loop-x : goal.invariant-loop-x
-invariant-loop-x l = Swept l.times l.m l.plan l.ready l.row l.until l.before l.slack l.x
