@@ -13,21 +13,6 @@ returns-in_err-check_both c =
     let p = err_from_is_err_and c.from_residual.result c.from_residual.ensures.1 in
     rw (p.1, p.2) (refused_both _ _ end_to_end _ _ _ c.in_err-check_both.ensures)
 
-pub slice_bounds-list-end : goal.slice_bounds-list-end
-unfolding IsCheck
-slice_bounds-list-end c = (begun _ _ c.in_ok-check_both.ensures c.firsts-count.ensures).inside
-
-pub slice_bounds-join_to-end : goal.slice_bounds-join_to-end
-unfolding IsCheck
-slice_bounds-join_to-end c = sym (length-take-le {A = ℕ} _ c.firsts-count.new.list (begun _ _ c.in_ok-check_both.ensures c.firsts-count.ensures).inside)
-
-pub overflow_mul-ends : goal.overflow_mul-ends
-unfolding IsCheck
-overflow_mul-ends c =
-    let ends = (ended _ _ c.in_ok-check_both.ensures c.lasts-ends.ensures).few in
-    let count = (begun _ _ c.in_ok-check_both.ensures c.firsts-count.ensures).few in
-    omega (arith, mul-le-mul ends count)
-
 pub join_to-requires : goal.join_to-requires
 unfolding IsCheck
 join_to-requires c =

@@ -29,10 +29,6 @@ sequence_at-loop-preserved t c = elim c.match-graph_at.branch [
       rw (w.walk-is, w.then-walk-in-None.ensures) (passes_more c.loop.invariant _ (opener_member w.in_ok-group_at-in-None.ensures))
 ]
 
-pub sequence_at-returns : goal.sequence_at-returns
-sequence_at-returns t c =
-    all_passed _ _ _ _ c.in_ok-members.ensures.1 (rw c.in_ok-deeper.ensures.1 at c.loop.invariant) c.in_ok-deeper.ensures.0 (omega (arith, c.loop-test.false, c.loop.auto.counter-end))
-
 -- ---- a group
 
 pub group_at-loop-init : goal.group_at-loop-init
@@ -56,7 +52,3 @@ group_at-loop-preserved t c = elim c.match-graph_at.branch [
   | group_at-in-None+in_ok-sequence_at-in-None w ↦
       rw (w.walk-is, w.beside-walk-in-None.ensures) (passes_more c.loop.invariant _ (opener_member w.in_ok-sequence_at-in-None.ensures))
 ]
-
-pub group_at-returns : goal.group_at-returns
-group_at-returns t c =
-    all_passed _ _ _ _ c.in_ok-members.ensures.1 (rw c.in_ok-deeper.ensures.1 at c.loop.invariant) c.in_ok-deeper.ensures.0 (omega (arith, c.loop-test.false, c.loop.auto.counter-end))
