@@ -1,6 +1,6 @@
 -- The first subtask that is so, as a scan that goes up place by place meets it; what a flag says. Assumes nothing.
 use Rattle.std.proofs.Common.{◌≡◌, ℕ, ◌+◌, ◌-◌, ◌≤◌, ◌<◌, None, Some, Bool, true, false, refl, sym, subst, arith}
-use Rattle.theory.specs.First.{IsFirstSubtask}
+use Rattle.theory.specs.First.{IsFirst, IsFirstSubtask}
 use Rattle.theory.specs.Flags.{Says}
 use Rattle.theory.proofs.Firsts.{NoneTo}
 
@@ -15,6 +15,16 @@ module _ {n : ℕ} (IsSo : ℕ → Type 0) {i : ℕ} (none : NoneTo IsSo i) wher
   pub first_none : n ≤ i → IsFirstSubtask n IsSo None
   unfolding IsFirstSubtask
   first_none l k a h = let e : k - 1 + 1 ≡ k = omega (arith, a.low) in none (k - 1) (omega (arith, a.low, a.high)) (rw e h)
+
+-- the same of a place
+module _ (n : ℕ) (IsSo : ℕ → Type 0) where
+  pub place_here : (i : ℕ) → IsFirst n (λ k. IsSo (k + 1)) (Some i) → IsFirstSubtask n IsSo (Some (record { 0 = i + 1 }))
+  unfolding IsFirst
+  place_here i f = first_here IsSo f.least f.inside f.is_so
+
+  pub place_none : IsFirst n (λ k. IsSo (k + 1)) None → IsFirstSubtask n IsSo None
+  unfolding IsFirst
+  place_none f = let clear : NoneTo IsSo n = f in first_none IsSo clear (omega arith)
 
 -- ---- what a flag says
 

@@ -13,25 +13,19 @@ use terms::{Entry, LATEST_START, Subtask};
 pub fn first_misplaced(plan: &[Entry], m: u32) -> Option<Subtask>
     ensures { IsFirstSubtask (length plan.now) (λ j. ¬ Among 1 m (processor_of plan.now j)) result }
 {
-    for (place, entry) in plan.iter().enumerate() {
+    let place = plan.iter().position(|entry| {
         let number = u32::from(entry.processor.0);
-        if number < 1 || m < number {
-            return Some(Subtask(place + 1));
-        }
-    }
-    None
+        number < 1 || m < number
+    })?;
+    Some(Subtask(place + 1))
 }
 
 // 14: a start above 16,776,960.
 pub fn first_late(plan: &[Entry]) -> Option<Subtask>
     ensures { IsFirstSubtask (length plan.now) (λ j. 16776960 < start_of plan.now j) result }
 {
-    for (place, entry) in plan.iter().enumerate() {
-        if LATEST_START < entry.start {
-            return Some(Subtask(place + 1));
-        }
-    }
-    None
+    let place = plan.iter().position(|entry| LATEST_START < entry.start)?;
+    Some(Subtask(place + 1))
 }
 
 // The latest end of a predecessor of each subtask, by its number; 0 where it has none.

@@ -1,23 +1,30 @@
 -- `first_misplaced`: the first subtask with a processor outside 1..m. Assumes nothing.
-use Rattle.std.proofs.Common.{[], arith, below_more}
+use Rattle.std.proofs.Common.{rules, [], ◌+◌, length}
+use Rattle.std.proofs.lemmas.Iterator.{IsFirst-from_position, YieldsList-from_slice}
+use borrow.Author.Tests.{tests}
+use Rattle.terms.specs.Graphs.{Among}
+use Rattle.terms.specs.Plans.{not_placed, processor_of}
+use Rattle.terms.specs.declared.Entry.{Entry}
+use Rattle.theory.specs.First.{IsFirst}
 use Rattle.forms.proofs.PlanEnds.{processor_next}
-use Rattle.plancheck.proofs.FirstSubtasks.{first_here, first_none}
+use Rattle.graph.proofs.FirstArrows.{first_position}
+use Rattle.plancheck.proofs.FirstSubtasks.{place_here, place_none}
 use Rattle.plancheck.proofs.scan.first_misplaced.Goals as goal
-use Rattle.plancheck.proofs.scan.first_misplaced.Goals.{then-number-lt1-via-then-number-lt1, then-number-lt1-via-else-number-lt1+then-m-number}
 
-pub returns-then-number-lt1 : goal.returns-then-number-lt1
-returns-then-number-lt1 c =
-    first_here _ c.loop-place.invariant (omega arith)
-    (λ h. elim c.then-number-lt1.branch [
-      | then-number-lt1-via-then-number-lt1 w ↦ omega (arith, h.low, processor_next [] c.args.plan.now c.loop-place.place)
-      | then-number-lt1-via-else-number-lt1+then-m-number w ↦ omega (arith, h.high, processor_next [] c.args.plan.now c.loop-place.place)
-    ])
-
-pub loop-place-preserved : goal.loop-place-preserved
-loop-place-preserved c =
-    below_more _ _ c.loop-place.invariant
-    (λ h. let number = processor_next [] c.args.plan.now c.loop-place.place in
-    h (record { low = omega arith; high = omega arith }))
+pub returns-in_err-place : goal.returns-in_err-place
+returns-in_err-place c =
+    let found : IsFirst (length c.args.plan.now) (λ k. ¬ Among 1 c.args.m (processor_of c.args.plan.now (k + 1))) c.position.result =
+    first_position not_placed c.args.plan.now (λ (e : Entry). ¬ Among 1 c.args.m e.processor.0) (λ (e : Entry). Among 1 c.args.m e.processor.0)
+    (λ k h. rw (processor_next [] c.args.plan.now k) h) (λ k h l. l (rw (processor_next [] c.args.plan.now k) h)) c.position.result
+    (IsFirst-from_position _ _ _ (λ (e : Entry). ¬ Among 1 c.args.m e.processor.0) (λ (e : Entry). Among 1 c.args.m e.processor.0) c.position.ensures.ran
+    (YieldsList-from_slice c.args.plan.now cc) (λ x q k. search (rules, tests)) (λ x q k. search (rules, tests))) in
+    rw c.from_residual.ensures (place_none _ _ (rw c.in_err-place.was at found))
 
 pub returns : goal.returns
-returns c = first_none _ c.loop-place.invariant (omega arith)
+returns c =
+    let found : IsFirst (length c.args.plan.now) (λ k. ¬ Among 1 c.args.m (processor_of c.args.plan.now (k + 1))) c.position.result =
+    first_position not_placed c.args.plan.now (λ (e : Entry). ¬ Among 1 c.args.m e.processor.0) (λ (e : Entry). Among 1 c.args.m e.processor.0)
+    (λ k h. rw (processor_next [] c.args.plan.now k) h) (λ k h l. l (rw (processor_next [] c.args.plan.now k) h)) c.position.result
+    (IsFirst-from_position _ _ _ (λ (e : Entry). ¬ Among 1 c.args.m e.processor.0) (λ (e : Entry). Among 1 c.args.m e.processor.0) c.position.ensures.ran
+    (YieldsList-from_slice c.args.plan.now cc) (λ x q k. search (rules, tests)) (λ x q k. search (rules, tests))) in
+    place_here _ _ _ (rw c.in_ok-place.was at found)
