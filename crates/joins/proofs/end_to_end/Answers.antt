@@ -1,6 +1,4 @@
 -- `end_to_end`: the table of a join, or the joined graph with an arrow from each last to each first. Assumes nothing.
-use Rattle.std.proofs.Common.{ℕ, sym, arith, mul-le-mul}
-use Rattle.std.proofs.lemmas.List.{length-take-le}
 use Rattle.std.proofs.lemmas.Result.{err_from_is_err_and}
 use Rattle.terms.specs.Joins.{end_to_end}
 use Rattle.terms.specs.Replies.{IsCheck}

@@ -1,6 +1,5 @@
 -- `put_joined`: the times and the arrows of the joined graph, put down. Assumes nothing.
 use Rattle.joins.proofs.Joining.{first_moves, second_moves, first_room, second_room, arrows_put}
-use Rattle.joins.proofs.Putting.{parts_put}
 use Rattle.joins.proofs.put_joined.Goals as goal
 
 pub put_graph-behind-requires : goal.put_graph-behind-requires

@@ -1,7 +1,6 @@
 -- `sequence_at` and `group_at`: what opens at a place, with a depth that falls from call to call. Assumes nothing.
-use Rattle.std.proofs.Common.{arith}
 use Rattle.nests.proofs.Members.{graph_member, opener_member}
-use Rattle.nests.proofs.Passed.{passes_begin, passes_more, passes_small, no_member, no_more, all_passed}
+use Rattle.nests.proofs.Passed.{passes_begin, passes_more, passes_small, no_member, no_more}
 use Rattle.nests.proofs.walk.+group_sequence.Goals.{sequence_at-in-Some, sequence_at-in-None+in_ok-group_at-in-None, group_at-in-Some, group_at-in-None+in_ok-sequence_at-in-None}
 use Rattle.nests.proofs.walk.+group_sequence.Goals as goal
 
