@@ -1,6 +1,4 @@
 -- `end_to_end`: the table of a join, or the joined graph with an arrow from each last to each first. Assumes nothing.
-use Rattle.std.proofs.Common.{ℕ, sym, arith, mul-le-mul}
-use Rattle.std.proofs.lemmas.List.{length-take-le}
 use Rattle.std.proofs.lemmas.Result.{err_from_is_err_and}
 use Rattle.terms.specs.Joins.{end_to_end}
 use Rattle.terms.specs.Replies.{IsCheck}
@@ -12,21 +10,6 @@ unfolding IsCheck
 returns-in_err-check_both c =
     let p = err_from_is_err_and c.from_residual.result c.from_residual.ensures.1 in
     rw (p.1, p.2) (refused_both _ _ end_to_end _ _ _ c.in_err-check_both.ensures)
-
-pub slice_bounds-list-end : goal.slice_bounds-list-end
-unfolding IsCheck
-slice_bounds-list-end c = (begun _ _ c.in_ok-check_both.ensures c.firsts-count.ensures).inside
-
-pub slice_bounds-join_to-end : goal.slice_bounds-join_to-end
-unfolding IsCheck
-slice_bounds-join_to-end c = sym (length-take-le {A = ℕ} _ c.firsts-count.new.list (begun _ _ c.in_ok-check_both.ensures c.firsts-count.ensures).inside)
-
-pub overflow_mul-ends : goal.overflow_mul-ends
-unfolding IsCheck
-overflow_mul-ends c =
-    let ends = (ended _ _ c.in_ok-check_both.ensures c.lasts-ends.ensures).few in
-    let count = (begun _ _ c.in_ok-check_both.ensures c.firsts-count.ensures).few in
-    omega (arith, mul-le-mul ends count)
 
 pub join_to-requires : goal.join_to-requires
 unfolding IsCheck

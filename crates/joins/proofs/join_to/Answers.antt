@@ -5,9 +5,6 @@ use Rattle.terms.specs.Replies.{IsCheck}
 use Rattle.joins.proofs.Joining.{added_few, few_arrows_lem, join_refused, join_room, join_made}
 use Rattle.joins.proofs.join_to.Goals as goal
 
-pub overflow_add-many : goal.overflow_add-many
-overflow_add-many c = let few = few_arrows_lem c.requires.joinable in omega (arith, few.0, few.1)
-
 pub overflow_add-many-2 : goal.overflow_add-many-2
 overflow_add-many-2 c =
     let few = few_arrows_lem c.requires.joinable in

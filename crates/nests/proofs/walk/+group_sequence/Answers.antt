@@ -1,7 +1,6 @@
 -- `sequence_at` and `group_at`: what opens at a place, with a depth that falls from call to call. Assumes nothing.
-use Rattle.std.proofs.Common.{arith}
 use Rattle.nests.proofs.Members.{graph_member, opener_member}
-use Rattle.nests.proofs.Passed.{passes_begin, passes_more, passes_small, no_member, no_more, all_passed}
+use Rattle.nests.proofs.Passed.{passes_begin, passes_more, passes_small, no_member, no_more}
 use Rattle.nests.proofs.walk.+group_sequence.Goals.{sequence_at-in-Some, sequence_at-in-None+in_ok-group_at-in-None, group_at-in-Some, group_at-in-None+in_ok-sequence_at-in-None}
 use Rattle.nests.proofs.walk.+group_sequence.Goals as goal
 
@@ -29,10 +28,6 @@ sequence_at-loop-preserved t c = elim c.match-graph_at.branch [
       rw (w.walk-is, w.then-walk-in-None.ensures) (passes_more c.loop.invariant _ (opener_member w.in_ok-group_at-in-None.ensures))
 ]
 
-pub sequence_at-returns : goal.sequence_at-returns
-sequence_at-returns t c =
-    all_passed _ _ _ _ c.in_ok-members.ensures.1 (rw c.in_ok-deeper.ensures.1 at c.loop.invariant) c.in_ok-deeper.ensures.0 (omega (arith, c.loop-test.false, c.loop.auto.counter-end))
-
 -- ---- a group
 
 pub group_at-loop-init : goal.group_at-loop-init
@@ -56,7 +51,3 @@ group_at-loop-preserved t c = elim c.match-graph_at.branch [
   | group_at-in-None+in_ok-sequence_at-in-None w ↦
       rw (w.walk-is, w.beside-walk-in-None.ensures) (passes_more c.loop.invariant _ (opener_member w.in_ok-sequence_at-in-None.ensures))
 ]
-
-pub group_at-returns : goal.group_at-returns
-group_at-returns t c =
-    all_passed _ _ _ _ c.in_ok-members.ensures.1 (rw c.in_ok-deeper.ensures.1 at c.loop.invariant) c.in_ok-deeper.ensures.0 (omega (arith, c.loop-test.false, c.loop.auto.counter-end))
