@@ -7,8 +7,9 @@ ghost use Rattle.graph.specs.Links.{IsEmpty, Linked};
 use terms::Subtask;
 
 // For each subtask the chain of the arrows into it, the latest first: `first` holds the position of that one, `next` of the one before it,
-// and 0 ends a chain. `first` has 32 bits so that the two tables differ in width: a compiled walk then goes from `next` to `next` without a
-// step between.
+// and 0 ends a chain, since an `Option` of a position would take twice the room of fixed tables. `first` has 32 bits so that the two differ
+// in width: a compiled walk then goes from `next` to `next` without a step between. (The arranged and listed chains have 16 bits in both,
+// and no struct may be generic in the numbers of an array.)
 #[derive(Drop)]
 pub struct Links {
     pub first: [u32; 257],

@@ -8,7 +8,7 @@ use crate::chains::Chained;
 use terms::Subtask;
 
 // Whether the arrows lead from a subtask back to it. It goes back along the arrows from there: each subtask that is met stands in the queue
-// once, and has its turn at v. c is the position of the arrow that is looked at.
+// once, and has its turn at v. c is the position of the arrow that is looked at. (The queue grows while it is gone along: no `for`.)
 fn leads_back(graph: &Chained<'_>, root: Subtask) -> bool
     requires { Among 1 graph.now.n root.0 }
     ensures { Says (LeadsTo graph.now.arrows.now root.0 root.0) result }

@@ -1,4 +1,5 @@
-// Refusals 1 to 8, the order "predecessors first", C and P.
+// Refusals 1 to 8, the order "predecessors first", C and P. A graph comes as the two rows that are lent, here and above: the definitions
+// speak of each of them, and a struct of both would stand in every clause (docs/DECISIONS.md).
 #![tactic(auto)]
 
 mod chains;

@@ -8,7 +8,8 @@ use terms::Subtask;
 // Whether the subtasks can stand in an order, predecessors first, which is left in `order`; else the arrows close a cycle, and the answer
 // is a subtask below which none is on one. It goes back along the arrows from each subtask in turn. At u, c is the position of the arrow that
 // is looked at; the arrows on the way to u stand on the stack. A mark is 1 where the subtask was not come to, its depth on the way and 2
-// where it is on the way, and 0 once it is placed.
+// where it is on the way, and 0 once it is placed: a number, since its depth stands in the same row. (A chain is left in its middle and
+// gone along later from there: no `for`.)
 pub fn order_subtasks(graph: &Chained<'_>, order: &mut [u16; 256]) -> Result<(), Subtask>
     requires { length order.old ≡ 256 }
     ensures { Orders graph.now.n graph.now.arrows.now order.new result }

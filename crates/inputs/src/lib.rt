@@ -8,6 +8,8 @@ ghost use Rattle.inputs.specs.Lent.{IsTimeOf, IsArrowAt};
 
 use terms::{Arrow, Subtask};
 
+// The planner itself calls the library's `from` and `max` in place of the next five, which docs/STATEMENTS.md promises to callers.
+
 pub fn usize_from_u8(byte: u8) -> usize
     ensures { (result ≡ byte) × (result < 256) }
 {
@@ -39,7 +41,7 @@ pub fn larger(a: u32, b: u32) -> u32
     a.max(b)
 }
 
-// The time of a subtask, and 0 for a number that is none.
+// The time of a subtask, and 0 for a number that is none: docs/STATEMENTS.md promises a number, as of the four below, so no `Option`.
 pub fn time_of(times: &[u16], subtask: Subtask) -> u32
     ensures { IsTimeOf times.now subtask.0 result }
 {

@@ -41,7 +41,7 @@ impl Marks {
         self.groups[x / 16] = true;
     }
 
-    // The first of the first n places that is marked. Those below `low` are known not to be.
+    // The first of the first n places that is marked. Those below `low` are known not to be. (Groups are passed over: no `for` has that step.)
     pub fn first(&self, low: usize, n: usize) -> Option<usize>
         requires { (n ≤ 256) × NoneBelow (IsMarked self.now) n low }
         ensures { FirstMark self.now n result }

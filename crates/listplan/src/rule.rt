@@ -32,7 +32,7 @@ pub struct Job<'a> {
 
 // Makes the list plan. At t each subtask that ends (`due` is the first processor with one) leaves its processor, and its arrows are counted
 // off (c is the position of the next one); then whatever can go goes; then the clock moves to the soonest end. No processor before `free` is
-// free, and no place of the order below `low` is marked.
+// free, and no place of the order below `low` is marked. (Which step comes next is decided by what the last one left: no `for`.)
 fn follow_rule(job: &Job, left: &mut [u16; 257], marks: &mut Marks, plan: &mut [Entry])
     requires { Making job.now.times.now job.now.arrows.now job.now.order.now job.now.m
         0 0 left.old marks.old (replicate 17 never) (replicate 17 0) plan.old }

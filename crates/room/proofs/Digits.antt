@@ -1,5 +1,5 @@
 -- The digits of a number put from the last to the first: whoever puts those that are left has put them all. Assumes nothing.
-use Rattle.std.proofs.Common.{◌≡◌, refl, sym, ap, ◌∙◌, List, [], ◌∷◌, ◌++◌, ℕ, ◌+◌, ◌-◌, ◌/◌, ◌%◌, ◌≤◌, ◌<◌, length, set, arith, length-append}
+use Rattle.std.proofs.Common.{◌≡◌, sym, ap, ◌∙◌, List, [], ◌∷◌, ◌++◌, ℕ, ◌+◌, ◌-◌, ◌/◌, ◌%◌, ◌≤◌, ◌<◌, length, set, arith, length-append}
 use mathlib.Core.Logic.{by_cases}
 use native.Mathlib.Decide.{dec_le}
 use Rattle.std.proofs.lemmas.List.Edits.{sets}
@@ -13,9 +13,6 @@ use Rattle.room.proofs.Puts.{put_whole}
 pub record DigitsLeft (before : List ℕ) (at x : ℕ) (text : List ℕ) (i rest : ℕ) : Type 0 where
   pub all : sets text at (decimal rest) ≡ sets before at (decimal x)
   pub place : i ≡ at + length (decimal rest)
-
-pub digits_start : (before : List ℕ) (at x i : ℕ) → i ≡ at + length (decimal x) → DigitsLeft before at x before i x
-digits_start before at x i e = record { all = refl; place = e }
 
 -- several are left; or the first one alone is
 pub digits_several : {before text : List ℕ} {at x i rest : ℕ} → at + 1 < i → DigitsLeft before at x text i rest → 10 ≤ rest

@@ -1,5 +1,5 @@
 -- Bytes in a room, one behind the other; the room that is left; what they leave; and no second reply. Assumes nothing.
-use Rattle.std.proofs.Common.{◌≡◌, refl, sym, ap, ap₂, ◌∙◌, subst, List, [], ◌++◌, ℕ, ◌+◌, ◌<◌, arith, length, take, drop, length-append}
+use Rattle.std.proofs.Common.{◌≡◌, refl, sym, ap, ap₂, ◌∙◌, List, [], ◌++◌, ℕ, ◌+◌, ◌<◌, arith, length, take, drop, length-append}
 use mathlib.Core.Logic.{by_cases}
 use native.Mathlib.Decide.{dec_le}
 use lib.Seq.{sets, sets-eq, length-sets}
@@ -16,10 +16,6 @@ stands_then {l} {m} {k} {at} {a} {b} {xs} {ys} p q = record {
   held = q.held ∙ ap₂ (λ (r : List ℕ) (i : ℕ). sets r i ys) p.held p.next ∙ sym (sets_append l at xs ys);
   next = omega (arith, q.next, p.next, length-append xs ys);
 }
-
--- the same bytes, otherwise written
-pub stands_same : {l m : List ℕ} {at a : ℕ} {xs ys : List ℕ} → xs ≡ ys → Stands l at xs m a → Stands l at ys m a
-stands_same {l} {m} {at} {a} e p = subst (λ (zs : List ℕ). Stands l at zs m a) e p
 
 -- the room is as long as it was
 pub stands_length : {l m xs : List ℕ} {at a : ℕ} → Stands l at xs m a → length m ≡ length l
@@ -50,12 +46,6 @@ one_put {l} {m} {k} {at} {a} {b} {xs} p q = by_cases (dec_le (at + length xs) (l
     (λ n. let h : length l < at + length xs = omega arith in
     ((p.nothing h).0 ∙ sym (q.nothing h).0, (p.nothing h).1 ∙ sym (q.nothing h).1))
 
--- ---- the two ways
-
--- there was room
+-- where there was room
 pub put_whole : {l m : List ℕ} {at a : ℕ} {xs : List ℕ} → HasRoom l at xs → Stands l at xs m a → Put l at xs m a
 put_whole h p = record { whole = λ _. p; nothing = λ n. absurd (omega (arith, n, h)) }
-
--- there was not
-pub put_nothing : (l : List ℕ) (at : ℕ) (xs : List ℕ) → length l < at + length xs → Put l at xs l at
-put_nothing l at xs n = record { whole = λ h. absurd (omega (arith, n, h)); nothing = λ _. (refl, refl) }

@@ -11,7 +11,7 @@ use Rattle.text.specs.Standing.{Ended, Passed}
 use Rattle.text.proofs.Lines.{lines_cons}
 use Rattle.stg.specs.LinesRead.{PredecessorsAre, TaskIs, FirstIs, Dummy, dummy}
 use Rattle.stg.specs.Numbers.{NoNumber, SomeNumber}
-use Rattle.terms.specs.declared.Refusal.TheVariants.{DummyLine, FirstLine, TaskLine}
+use Rattle.terms.specs.declared.Refusal.TheVariants.{DummyLine, FirstLine}
 
 -- ---- the line at hand
 
@@ -174,9 +174,6 @@ entry_line_lem n s = rw (top_line s, rest_line s, all_below_0 (predecessors_in (
 pub exit_line_lem : (i : ℕ) (s : List ℕ) → exit_line i (lines s) ≡ dummy i (line s) (trailer (later s))
 unfolding exit_line
 exit_line_lem i s = rw (top_line s, rest_line s)
-
-pub dummy_bad : (i : ℕ) (l : List ℕ) → is_task i l ≡ false → (r : Reading) → dummy i l r ≡ refuse TaskLine
-dummy_bad i l e r = rw e
 
 module _ {text : List ℕ} {at i : ℕ} {row : List (List ℕ)} {a t : ℕ} {below : Bool} {b e : ℕ} {row' : List (List ℕ)}
     (h : TaskIs text at i row a t below b e row') where

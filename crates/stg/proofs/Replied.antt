@@ -1,7 +1,6 @@
 -- From the room, the lines and the check to the reply. Assumes nothing.
-use Rattle.std.proofs.Common.{◌≡◌, refl, sym, ◌∙◌, ap, List, map, ◌&&◌, ℕ, ◌+◌, ◌≤◌, ◌<◌, arith, le-leb, leb, length, take, drop, length-take, take_at}
+use Rattle.std.proofs.Common.{◌≡◌, refl, sym, ◌∙◌, ap, List, map, ℕ, ◌+◌, ◌≤◌, arith, le-leb, length, take, drop, take_at}
 use Rattle.std.proofs.Common.{Result, Ok, Err}
-use borrow.Author.Tests.{lt-leb}
 use lib.ListN.{length-map}
 use lib.Seq.{sets, sets-eq}
 use Rattle.terms.specs.Rows.{Accepted}
@@ -9,29 +8,15 @@ use Rattle.terms.specs.Graphs.{Among}
 use Rattle.terms.specs.Refusals.{time_and_arrow_rows}
 use Rattle.terms.specs.Replies.{IsCheck}
 use Rattle.terms.specs.Texts.{lines}
-use Rattle.terms.specs.Readings.{Reading, refuse, graph, need, read_lines, read_text, IsReplyTo, IsRead}
+use Rattle.terms.specs.Readings.{Reading, refuse, graph, read_lines, read_text, IsReplyTo, IsRead}
 use Rattle.terms.specs.declared.GraphSize.{GraphSize}
 use Rattle.terms.specs.declared.Refusal.{Refusal}
 use Rattle.stg.specs.LinesRead.{hold, Fails, Rows, outcome, Leaves}
 use Rattle.stg.specs.RowsRead.{AllPairs, Stored, ChecksRead, RoomOf, IsRefusalOf, Begins, TellsOf, kept_by, ClearedPast}
 use Rattle.stg.proofs.TwoEnds.{PairsIn, pairs_reading}
 use Rattle.stg.proofs.Clipped.{unclipped, accepted_first_rows}
-use Rattle.terms.specs.declared.Refusal.TheVariants.{Room, TextLength}
 
 -- ---- what is asked first
-
-module _ (times_room arrows_room size : ℕ) (reading : Reading) where
-  abbrev asked : Reading
-  asked = need (leb 256 times_room && leb 2048 arrows_room) Room (need (leb size 60000) TextLength reading)
-
-  pub short_times : times_room < 256 → asked ≡ refuse Room
-  short_times h = rw (lt-leb 256 times_room h)
-
-  pub short_arrows : 256 ≤ times_room → arrows_room < 2048 → asked ≡ refuse Room
-  short_arrows h k = rw (le-leb 256 times_room h, lt-leb 2048 arrows_room k)
-
-  pub long_text : 256 ≤ times_room → 2048 ≤ arrows_room → 60000 < size → asked ≡ refuse TextLength
-  long_text h k l = rw (le-leb 256 times_room h, le-leb 2048 arrows_room k, lt-leb size 60000 l)
 
 refused_by : (reading : Reading) (refusal : Refusal) → reading ≡ refuse refusal → IsRefusalOf reading refusal
 refused_by reading refusal e = rw e
@@ -147,16 +132,6 @@ module _ (text ts : List ℕ) (ar : List (List ℕ)) (ts' : List ℕ) (ar' : Lis
     told_check refusal f = rw is (tells_check (Err refusal) f)
 
 -- ---- the reply
-
--- it keeps no more than the two rows have
-pub kept_within : (reading : Reading) (ts : List ℕ) (ar : List (List ℕ)) (r : Result GraphSize Refusal) → TellsOf reading ts ar r
-    → ((kept_by r).subtasks ≤ length ts) × ((kept_by r).arrows ≤ length ar)
-kept_within reading ts ar (Err refusal) x = (omega arith, omega arith)
-kept_within (refuse k) ts ar (Ok size) x = absurd x
-kept_within (graph us bs) ts ar (Ok size) x = (
-  omega (arith, x.subtasks_are, ap length x.times_begin, length-take (length us) ts),
-  omega (arith, x.arrows_are, ap length x.arrows_begin, length-take (length bs) ar),
-)
 
 module _ (L M : ℕ) (ts : List ℕ) (ar : List (List ℕ)) (lt : length ts ≡ L) (la : length ar ≡ M) (ts' : List ℕ) (ar' : List (List ℕ)) where
   replies : (reading : Reading) (r : Result GraphSize Refusal) → TellsOf reading ts ar r → ClearedPast (kept_by r).subtasks ts ts' (kept_by r).arrows ar ar'

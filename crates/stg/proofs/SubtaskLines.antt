@@ -74,11 +74,6 @@ pub record SubtasksLeft (text : List ℕ) (at n : ℕ) (ts : List ℕ) (ar : Lis
   pub few : a ≤ here
   pub upto : j ≤ n
 
-pub left_none : (text : List ℕ) (at n : ℕ) (ts : List ℕ) (ar : List (List ℕ)) → at ≤ length text → SubtasksLeft text at n ts ar at 0 0 ts ar
-left_none text at n ts ar h =
-    let z : n - 0 ≡ n = omega arith in
-    record { does = rw z; inside = h; few = omega arith; upto = omega arith }
-
 module _ {text : List ℕ} {at n : ℕ} {ts : List ℕ} {ar : List (List ℕ)} {here a j : ℕ} {ts' : List ℕ} {ar' : List (List ℕ)}
     (g : SubtasksLeft text at n ts ar here a j ts' ar') where
   one_left : j < n → n - j ≡ suc (n - (j + 1))
@@ -87,16 +82,6 @@ module _ {text : List ℕ} {at n : ℕ} {ts : List ℕ} {ar : List (List ℕ)} {
   pub left_bad : (c : Refusal) → j < n → ((k : ℕ) → task_lines (j + 1) (suc k) (lines (drop here text)) ≡ refuse c)
       → outcome ts ar 0 0 (task_lines 1 n (lines (drop at text))) ≡ Fails c
   left_bad c h f = g.does ∙ rw (one_left h, f)
-
-  pub left_more : {b e : ℕ} {ts'' : List ℕ} {ar'' : List (List ℕ)} → j < n → OneSubtask text here j a ts' ar' b e ts'' ar''
-      → SubtasksLeft text at n ts ar e b (j + 1) ts'' ar''
-  left_more h o =
-      record {
-        does = g.does ∙ ap (λ (k : ℕ). outcome ts' ar' j a (task_lines (j + 1) k (lines (drop here text)))) (one_left h) ∙ o.does (n - (j + 1));
-        inside = o.inside;
-        few = o.few;
-        upto = omega arith;
-      }
 
   pub left_end : n ≤ j → AllSubtasks text at n ts ar a here ts' ar'
   left_end h = record { does = g.does ∙ end; inside = g.inside }

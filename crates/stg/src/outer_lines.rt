@@ -63,7 +63,7 @@ fn following_line(text: &[u8], at: usize) -> Option<usize>
     line_end(text, at)
 }
 
-// Whether only such lines stand from `at` on.
+// Whether only such lines stand from `at` on. (Each line says where the next one begins: no `for`.)
 fn may_end(text: &[u8], at: usize) -> bool
     requires { at ≤ length text.now }
     ensures { trailer (lines (drop at text.now)) ≡ cond result (graph [] []) (refuse TaskLine) }

@@ -43,7 +43,8 @@ pub struct Rest {
     pub next: usize,
 }
 
-// Goes along the rest of the line at `at`; each number on it is a predecessor of task i. Nothing where a piece of it is no number.
+// Goes along the rest of the line at `at`; each number on it is a predecessor of task i. Nothing where a piece of it is no number. (Each
+// number says where the next one stands: no `for`.)
 pub fn take_predecessors(text: &[u8], at: usize, i: usize, arrows: &mut Arrows) -> Option<Rest>
     requires { (at ≤ length text.now) × (i < 65536) × (arrows.old.count ≤ at) }
     ensures { PredecessorsOf text.now at i arrows.old arrows.new result }

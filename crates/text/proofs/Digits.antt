@@ -2,7 +2,6 @@
 use Rattle.std.proofs.Common.{◌≡◌, refl, ap, ◌∙◌, ℕ, zero, suc, ◌+◌, ◌-◌, ◌*◌, ◌^◌, ◌≤◌, ◌<◌, List, [], ◌∷◌, Bool, true, false, ◌&&◌, leb, length, take}
 use Rattle.std.proofs.Common.{drop, get_or, arith, pow-suc, add-one, drop_of_length-le, drop-cons, get_or-drop, leb-true}
 use Rattle.std.proofs.lemmas.List.{take_rest}
-use native.Mathlib.Nat.{pow-le-pow_right}
 use Rattle.terms.specs.Texts.{all_pass, is_digit, value_from, value}
 
 pub false_true : {P : Type 0} → false ≡ true → P
@@ -41,10 +40,6 @@ pub record Made (s : List ℕ) (n i : ℕ) : Type 0 where
   pub inside : i ≤ length s
   pub small : n < 10 ^ i
   pub same : value_from n (drop i s) ≡ value s
-
--- before an eighth digit
-pub made_few : (s : List ℕ) (n i : ℕ) → Made s n i → i < 8 → n < 10000000
-made_few s n i m k = omega (arith, m.small, pow-le-pow_right {n = 10} (omega arith) {i = i} {j = 7} (omega arith))
 
 pub made_all : (s : List ℕ) (n i : ℕ) → Made s n i → length s ≤ i → n ≡ value s
 unfolding value_from

@@ -234,15 +234,6 @@ pub spoilt : (b : ℕ) (s : List ℕ) → blanks (b ∷ s) ≡ 0 → digits (b �
 unfolding all_pass
 spoilt b s h k e = rw (line_on b s e) (stray [] b (line s) refl (not_blank b s (is_blank b) refl h) (not_digit b s (is_digit b) refl k))
 
--- a line's end without LF in front is CR LF
-return_feed : (b : ℕ) (s : List ℕ) → (b ≡ 10 → ⊥) → is_return b s ≡ true → line_size (b ∷ s) ≡ 2
-unfolding line_size
-return_feed b [] g f = false_true (both (eqb b 13) false f).1
-return_feed b (d ∷ s) g f = rw (ne_eqb b 10 g, (both (eqb b 13) (is_feed d) f).1)
-
-pub size_return : (b : ℕ) (s : List ℕ) → (b ≡ 10 → ⊥) → ends_here (b ∷ s) ≡ true → line_size (b ∷ s) ≡ 2
-size_return b s g e = return_feed b s g (rw (ne_eqb b 10 g) at e)
-
 pub fields_none : fields [] ≡ []
 unfolding fields
 fields_none = refl

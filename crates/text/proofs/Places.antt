@@ -1,7 +1,7 @@
 -- What stands at a place of a text: spaces and tabs, digits, a line's end. Assumes nothing.
-use Rattle.std.proofs.Common.{ℕ, suc, ◌+◌, ◌≤◌, ◌<◌, ◌≡◌, refl, ap, List, [], ◌∷◌, Bool, true, false, cond, ◌||◌, arith, length, take, drop, get_or, length-drop}
-use Rattle.std.proofs.Common.{drop_of_length-le, drop-cons, eqb, ne_eqb}
-use Rattle.terms.specs.Texts.{is_blank, is_digit, is_feed, is_return, ends_here, blanks, digits}
+use Rattle.std.proofs.Common.{ℕ, suc, ◌+◌, ◌≤◌, ◌<◌, ◌≡◌, refl, ap, List, [], ◌∷◌, Bool, true, false, cond, arith, length, take, drop, get_or, length-drop}
+use Rattle.std.proofs.Common.{drop_of_length-le, drop-cons, ne_eqb}
+use Rattle.terms.specs.Texts.{is_blank, is_digit, is_feed, blanks, digits}
 use Rattle.text.specs.Steps.{line_size}
 
 module _ (s : List ℕ) (i : ℕ) (h : i < length s) where
@@ -21,9 +21,6 @@ module _ (s : List ℕ) (i : ℕ) (h : i < length s) where
   unfolding line_size
   size_go e = rw (drop-cons s i 0 h, ne_eqb _ _ e)
 
-  at_ends_here : ends_here (drop i s) ≡ (is_feed (get_or s i 0) || is_return (get_or s i 0) (drop (suc i) s))
-  at_ends_here = rw (drop-cons s i 0 h)
-
   pub digits_stop : is_digit (get_or s i 0) ≡ false → digits (drop i s) ≡ []
   unfolding digits
   digits_stop e = rw (drop-cons s i 0 h, e)
@@ -31,19 +28,6 @@ module _ (s : List ℕ) (i : ℕ) (h : i < length s) where
   pub digits_go : is_digit (get_or s i 0) ≡ true → digits (drop i s) ≡ get_or s i 0 ∷ digits (drop (suc i) s)
   unfolding digits
   digits_go e = rw (drop-cons s i 0 h, e)
-
-  -- a line end: LF, or CR and then LF
-  pub ends_here_feed : get_or s i 0 ≡ 10 → true ≡ ends_here (drop i s)
-  ends_here_feed e = rw (at_ends_here, e)
-
-  pub ends_here_other : (get_or s i 0 ≡ 10 → ⊥) → (get_or s i 0 ≡ 13 → ⊥) → false ≡ ends_here (drop i s)
-  ends_here_other e f = rw (at_ends_here, ne_eqb _ _ e, ne_eqb _ _ f)
-
-  pub ends_here_last : (get_or s i 0 ≡ 10 → ⊥) → get_or s i 0 ≡ 13 → length s ≤ suc i → false ≡ ends_here (drop i s)
-  ends_here_last e f g = rw (at_ends_here, f, drop_of_length-le s g)
-
-  pub ends_here_next : (get_or s i 0 ≡ 10 → ⊥) → get_or s i 0 ≡ 13 → suc i < length s → eqb (get_or s (suc i) 0) 10 ≡ ends_here (drop i s)
-  ends_here_next e f g = rw (at_ends_here, f, drop-cons s (suc i) 0 g)
 
 module _ (s : List ℕ) (i : ℕ) (h : length s ≤ i) where
   pub blanks_end : blanks (drop i s) ≡ 0

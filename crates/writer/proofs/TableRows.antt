@@ -1,8 +1,8 @@
 -- The row of a subtask is a part of the table of numbers. Assumes nothing.
-use Rattle.std.proofs.Common.{◌≡◌, sym, ap₂, ◌∙◌, List, ℕ, ◌+◌, ◌-◌, ◌≤◌, ◌<◌, arith, length, get_or, take, drop, length-drop, length-take-le}
+use Rattle.std.proofs.Common.{◌≡◌, sym, ap₂, ◌∙◌, List, ℕ, ◌-◌, ◌≤◌, arith, length, get_or, take, drop, length-drop, length-take-le}
 use Rattle.terms.specs.Arrangements.{stretch, row_of}
 use Rattle.theory.proofs.Ascending.{stretch_part}
-use Rattle.writer.specs.Lines.{HasRow, Rows}
+use Rattle.writer.specs.Lines.{HasRow}
 
 module _ {begins numbers : List ℕ} {j : ℕ} (has : HasRow begins numbers j) (from to : ℕ) (eb : from ≡ get_or begins (j - 1) 0) (ee : to ≡ get_or begins j 0) where
   pub row_rises : from ≤ to
@@ -17,7 +17,3 @@ module _ {begins numbers : List ℕ} {j : ℕ} (has : HasRow begins numbers j) (
     sym (ap₂ (λ (f t : ℕ). stretch numbers f (t - f)) (sym eb) (sym ee) ∙ stretch_part numbers from (to - from) (omega (arith, row_rises, row_inside))),
     omega (arith, length-take-le (to - from) (drop from numbers) (omega (arith, length-drop from numbers, row_inside)), row_inside),
   )
-
--- the rows of 1..n are those at the places below n
-pub row_at : {times begins numbers : List ℕ} → Rows times begins numbers → (i : ℕ) → i < length times → HasRow begins numbers (i + 1)
-row_at rows i h = rows.row (i + 1) (record { low = omega arith; high = omega (arith, h) })

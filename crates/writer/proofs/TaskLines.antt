@@ -6,14 +6,6 @@ use Rattle.room.specs.Puts.{HasRoom, Stands, Put}
 use Rattle.room.proofs.Remaining.{Remains, remains_all, remains_same, remains_room, remains_stands, remains_put, remains_none}
 use Rattle.writer.specs.Lines.{task_line}
 
--- ---- a space and a number
-
-pub further_put : {l m k : List ℕ} {at a b : ℕ} (x : ℕ) → HasRoom l at (32 ∷ decimal x) → Put l at (32 ∷ []) m a → Put m a (decimal x) k b
-    → Stands l at (32 ∷ decimal x) k b
-further_put {l} {k = k} {at} {b = b} x h p q =
-    let behind = remains_put (decimal x) (remains_all l at (32 ∷ decimal x) h) p in
-    behind.all k b (q.whole behind.room)
-
 -- ---- the numbers that follow
 
 further_next : (row : List ℕ) (i : ℕ) → i < length row → further (drop i row) ≡ (32 ∷ decimal (get_or row i 0)) ++ further (drop (i + 1) row)

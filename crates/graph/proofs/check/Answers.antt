@@ -3,8 +3,5 @@ use Rattle.std.proofs.Common.{refl}
 use Rattle.graph.proofs.Replies.{finds_check}
 use Rattle.graph.proofs.check.Goals as goal
 
-pub check_and_order-requires : goal.check_and_order-requires
-check_and_order-requires c = (c.none-links.ensures, refl)
-
 pub returns : goal.returns
 returns c = finds_check c.check_and_order.ensures

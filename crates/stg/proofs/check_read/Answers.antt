@@ -1,12 +1,9 @@
 -- `check_read`: 2 to 7 of a graph that was read, also where it has too many arrows. Assumes nothing.
-use Rattle.std.proofs.Common.{sym, arith, length-take-le}
+use Rattle.std.proofs.Common.{arith}
 use Rattle.std.proofs.lemmas.Result.{err_from_is_err_and}
 use Rattle.terms.specs.Replies.{IsCheck}
 use Rattle.stg.proofs.Clipped.{checks_few, checks_three, checks_two}
 use Rattle.stg.proofs.check_read.Goals as goal
-
-pub slice_bounds-check-end : goal.slice_bounds-check-end
-slice_bounds-check-end c = sym (length-take-le _ _ (omega arith))
 
 pub returns-then-a-le-MOST_ARROWS : goal.returns-then-a-le-MOST_ARROWS
 returns-then-a-le-MOST_ARROWS c =

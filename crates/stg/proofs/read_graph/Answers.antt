@@ -9,9 +9,6 @@ returns-in_err-check_room c =
     let p = err_from_is_err_and c.from_residual.result c.from_residual.ensures.1 in
     rw (p.1, p.2) (no_fit (length c.args.times.now) (length c.args.arrows.now) c.args.text.now _ c.in_err-check_room.ensures)
 
-pub read_lines-requires : goal.read_lines-requires
-read_lines-requires c = c.in_ok-check_room.ensures.0
-
 pub returns-in_err-size : goal.returns-in_err-size
 returns-in_err-size c =
     let p = err_from_is_err_and c.from_residual-in_err-size.result c.from_residual-in_err-size.ensures.1 in

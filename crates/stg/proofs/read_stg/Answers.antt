@@ -1,11 +1,7 @@
 -- `read_stg`: the reply, with zeros past what it keeps. Assumes nothing.
 use Rattle.std.proofs.Common.{length, arith}
-use Rattle.stg.proofs.Replied.{kept_within, reply}
+use Rattle.stg.proofs.Replied.{reply}
 use Rattle.stg.proofs.read_stg.Goals as goal
-
-pub clear_past-requires : goal.clear_past-requires
-clear_past-requires c =
-    rw c.unwrap_or-kept.ensures (kept_within _ _ _ c.read_graph-reply.result c.read_graph-reply.ensures)
 
 pub returns : goal.returns
 returns c =

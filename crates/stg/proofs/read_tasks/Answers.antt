@@ -1,5 +1,5 @@
 -- `read_tasks`: the subtasks' lines and the closing leave the reading from there on. Assumes nothing.
-use Rattle.std.proofs.Common.{sym, arith, rules}
+use Rattle.std.proofs.Common.{sym, rules}
 use Rattle.std.proofs.lemmas.Result.{err_from_is_err_and}
 use Rattle.stg.specs.LinesRead.{Leaves}
 use Rattle.stg.proofs.AllLines.{closing_refused, closing_sound}
@@ -10,9 +10,6 @@ unfolding Leaves
 returns-in_err-next c =
     let p = err_from_is_err_and c.from_residual.result c.from_residual.ensures.1 in
     rw (p.1, p.2) c.in_err-next.ensures
-
-pub take_closing-requires : goal.take_closing-requires
-take_closing-requires c = (c.in_ok-next.ensures.1.inside, omega arith)
 
 pub returns-in_err-take_closing : goal.returns-in_err-take_closing
 unfolding Leaves

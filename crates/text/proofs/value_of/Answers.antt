@@ -1,6 +1,6 @@
 -- `value_of`: the number of a field, digit by digit. Assumes nothing.
 use Rattle.std.proofs.Common.{◌+◌, arith}
-use Rattle.text.proofs.Digits.{behind_first, digit_at, made_few, made_all, made_first, made_more}
+use Rattle.text.proofs.Digits.{behind_first, digit_at, made_all, made_first, made_more}
 use Rattle.text.proofs.value_of.Goals as goal
 
 pub overflow_sub-field : goal.overflow_sub-field
@@ -13,14 +13,6 @@ pub overflow_sub-b : goal.overflow_sub-b
 overflow_sub-b c =
     let field = c.args.field.now in
     omega (arith, behind_first field c.loop-b.b-index, digit_at field (c.loop-b.b-index + 1) c.requires.2 (omega arith))
-
-pub overflow_mul-number : goal.overflow_mul-number
-overflow_mul-number c =
-    omega (arith, made_few c.args.field.now c.loop-b.number (c.loop-b.b-index + 1) c.loop-b.invariant (omega arith))
-
-pub overflow_add-number : goal.overflow_add-number
-overflow_add-number c =
-    omega (arith, made_few c.args.field.now c.loop-b.number (c.loop-b.b-index + 1) c.loop-b.invariant (omega arith))
 
 pub loop-b-preserved : goal.loop-b-preserved
 loop-b-preserved c =

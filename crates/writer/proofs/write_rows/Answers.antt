@@ -1,24 +1,9 @@
 -- `write_rows`: the text of an accepted graph, over its rows of predecessors. Assumes nothing.
-use Rattle.std.proofs.Common.{sym, ℕ, arith, length, length-take-le}
+use Rattle.std.proofs.Common.{arith, length}
 use Rattle.terms.specs.Arrangements.{lasts_of}
 use Rattle.arranged.proofs.NoArrows.{Leads, front_lasts}
 use Rattle.writer.proofs.Replied.{front_short, rows_stand, written_rows}
 use Rattle.writer.proofs.write_rows.Goals as goal
-
-pub lasts-count-requires : goal.lasts-count-requires
-lasts-count-requires c = tt
-
-pub slice_bounds-list-end : goal.slice_bounds-list-end
-slice_bounds-list-end c =
-    let listed : Leads (lasts_of (length c.args.times.now) c.args.arrows.now) c.lasts-count.new.list c.lasts-count.result =
-    front_lasts c.requires.sound c.lasts-count.ensures in
-    listed.inside
-
-pub slice_bounds-write_text-end : goal.slice_bounds-write_text-end
-slice_bounds-write_text-end c =
-    let listed : Leads (lasts_of (length c.args.times.now) c.args.arrows.now) c.lasts-count.new.list c.lasts-count.result =
-    front_lasts c.requires.sound c.lasts-count.ensures in
-    sym (length-take-le {A = ℕ} _ c.lasts-count.new.list listed.inside)
 
 pub write_text-requires : goal.write_text-requires
 write_text-requires c =

@@ -13,9 +13,6 @@ at_arrow c = looks c.loop-c.invariant.tidy c.loop-c.invariant.along c.loop-c-tes
 pub loop-from-init : goal.loop-from-init
 loop-from-init c = (search_start c.args.graph.now.tidy c.requires c.args.graph.now.linked (length-replicate {A = ℕ} 256 0), omega (arith, c.args.graph.now.tidy.subtasks, c.requires.high))
 
-pub begin-c-requires : goal.begin-c-requires
-begin-c-requires c = c.loop-from.invariant.1
-
 pub returns-then-p-root : goal.returns-then-p-root
 returns-then-p-root c = search_back c.loop-c.invariant (at_arrow (goal.at.returns-then-p-root c).After-source-from) c.if-p-root.true
 

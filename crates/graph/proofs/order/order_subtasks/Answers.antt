@@ -8,7 +8,12 @@ use Rattle.graph.proofs.Walk.{state_start, state_end}
 use Rattle.graph.proofs.WalkPasses.{state_skip, state_cycle}
 use Rattle.graph.proofs.WalkEnters.{state_root, state_enter, state_on}
 use Rattle.graph.proofs.WalkPlaces.{end_small, state_home, back_is, state_back}
+use Rattle.graph.proofs.order.order_subtasks.Goals.{After-source-from}
 use Rattle.graph.proofs.order.order_subtasks.Goals as goal
+
+-- at an arrow to u
+at_arrow : (c : After-source-from) → Looks c.args.graph.now.n c.args.graph.now.arrows.now c.loop-c.u c.loop-c.c c.source-from.result.0
+at_arrow c = looks c.args.graph.now.tidy c.loop-c.invariant.0.at.along c.if-c-ne0.true c.source-from.ensures.0
 
 pub loop-root-init : goal.loop-root-init
 loop-root-init c = state_start c.args.graph.now.tidy c.args.graph.now.linked c.requires (length-replicate {A = ℕ} 256 0)
@@ -21,14 +26,11 @@ loop-c-init c =
 
 pub loop-c-smaller-then-m-eq0 : goal.loop-c-smaller-then-m-eq0
 loop-c-smaller-then-m-eq0 c =
-    let at : Looks c.args.graph.now.n c.args.graph.now.arrows.now c.loop-c.u c.loop-c.c c.source-from.result.0 =
-    looks c.args.graph.now.tidy c.loop-c.invariant.0.at.along c.if-c-ne0.true c.source-from.ensures.0 in
-    rw c.after-c.ensures (state_skip c.loop-c.invariant.0 at c.if-m-eq0.true).1
+    rw c.after-c.ensures (state_skip c.loop-c.invariant.0 (at_arrow (goal.at.loop-c-smaller-then-m-eq0 c).After-source-from) c.if-m-eq0.true).1
 
 goes_on : goal.loop-c-preserved-then-m-eq1 × goal.loop-c-smaller-then-m-eq1
 goes_on = both (λ c.
-    let at : Looks c.args.graph.now.n c.args.graph.now.arrows.now c.loop-c.u c.loop-c.c c.source-from.result.0 =
-    looks c.args.graph.now.tidy c.loop-c.invariant.0.at.along c.if-c-ne0.true c.source-from.ensures.0 in
+    let at = at_arrow (goal.at.loop-c-preserved-then-m-eq1 c).After-source-from in
     let s = state_on c.loop-c.invariant.0 at c.if-m-eq1.true in
     rw c.begin-c-then-m-eq1.ensures ((s.0, λ z. omega (arith, z, at.from_is.low)), s.1))
 
@@ -40,9 +42,7 @@ loop-c-smaller-then-m-eq1 = goes_on.1
 
 pub returns-else-m-eq1 : goal.returns-else-m-eq1
 returns-else-m-eq1 c =
-    let at : Looks c.args.graph.now.n c.args.graph.now.arrows.now c.loop-c.u c.loop-c.c c.source-from.result.0 =
-    looks c.args.graph.now.tidy c.loop-c.invariant.0.at.along c.if-c-ne0.true c.source-from.ensures.0 in
-    state_cycle c.loop-c.invariant.0 at c.if-m-eq0.false c.if-m-eq1.false
+    state_cycle c.loop-c.invariant.0 (at_arrow (goal.at.returns-else-m-eq1 c).After-source-from) c.if-m-eq0.false c.if-m-eq1.false
 
 pub bounds-order-placed : goal.bounds-order-placed
 bounds-order-placed c = (end_small c.loop-c.invariant.0 c.if-c-ne0.false c.loop-c.invariant.1).2

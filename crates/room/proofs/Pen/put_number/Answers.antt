@@ -1,14 +1,7 @@
 -- `put_number`: the digits from the last to the first, where there is room for all of them. Assumes nothing.
 use Rattle.std.proofs.Common.{refl, arith}
-use Rattle.room.proofs.Puts.{put_nothing}
-use Rattle.room.proofs.Digits.{digits_start, digits_step, digits_first, digits_end}
+use Rattle.room.proofs.Digits.{digits_step, digits_first, digits_end}
 use Rattle.room.proofs.Pen.put_number.Goals as goal
-
-pub returns-then-saturating_sub-size : goal.returns-then-saturating_sub-size
-returns-then-saturating_sub-size c = record { same_room = refl; put = put_nothing _ _ _ (omega (arith, c.number_size-size.ensures.0)) }
-
-pub loop-i-init : goal.loop-i-init
-loop-i-init c = digits_start _ _ _ _ (omega (arith, c.number_size-size.ensures.0))
 
 pub loop-i-preserved : goal.loop-i-preserved
 loop-i-preserved c = digits_step c.loop-i-test.true c.loop-i.invariant

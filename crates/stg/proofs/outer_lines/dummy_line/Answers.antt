@@ -1,11 +1,8 @@
 -- `dummy_line`: a dummy has time 0 and predecessors below its index. Assumes nothing.
 use Rattle.std.proofs.lemmas.Bool.{not-true, not-false}
-use Rattle.stg.proofs.OneLine.{dummy_bad, dummy_time, dummy_far, dummy_is}
+use Rattle.stg.proofs.OneLine.{dummy_time, dummy_far, dummy_is}
 use Rattle.stg.proofs.outer_lines.dummy_line.Goals as goal
 use Rattle.stg.proofs.outer_lines.dummy_line.Goals.{then-line-ne0-via-then-line-ne0, then-line-ne0-via-else-line-ne0+then-not-line}
-
-pub returns-in_default : goal.returns-in_default
-returns-in_default c = dummy_bad c.args.i _ c.in_default.ensures
 
 pub returns-then-line-ne0 : goal.returns-then-line-ne0
 returns-then-line-ne0 c = elim c.then-line-ne0.branch [

@@ -3,9 +3,6 @@ use Rattle.std.proofs.Common.{arith}
 use Rattle.stg.proofs.OneLine.{first_none, first_more, first_low, first_high, first_is}
 use Rattle.stg.proofs.outer_lines.first_line.Goals as goal
 
-pub line_end-requires : goal.line_end-requires
-line_end-requires c = c.in-Some.ensures.inside
-
 pub returns-in_default : goal.returns-in_default
 returns-in_default c = first_none c.args.text.now c.in_default.ensures
 

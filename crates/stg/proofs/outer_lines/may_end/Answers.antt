@@ -1,20 +1,11 @@
 -- `may_end`: only lines that may follow stand from here on. Assumes nothing.
-use Rattle.std.proofs.Common.{refl, ◌∙◌, arith}
+use Rattle.std.proofs.Common.{◌∙◌, arith}
 use Rattle.stg.proofs.Followers.{trailer_more, trailer_stop, trailer_end}
 use Rattle.stg.proofs.outer_lines.may_end.Goals as goal
-
-pub loop-here-init : goal.loop-here-init
-loop-here-init c = (omega arith, refl)
-
-pub following_line-requires : goal.following_line-requires
-following_line-requires c = omega arith
 
 pub returns-in_default : goal.returns-in_default
 returns-in_default c =
     c.loop-here.invariant.1 ∙ trailer_stop c.args.text.now c.loop-here.here (omega arith) c.in_default.ensures
-
-pub loop-here-smaller : goal.loop-here-smaller
-loop-here-smaller c = let next = c.in-Some.ensures in omega arith
 
 pub loop-here-preserved : goal.loop-here-preserved
 loop-here-preserved c =

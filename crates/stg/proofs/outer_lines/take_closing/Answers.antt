@@ -14,9 +14,6 @@ returns-in_err-next c =
     let p = err_from_is_err_and c.from_residual.result c.from_residual.ensures.1 in
     rw (p.1, p.2) (exit_refused c.args.text.now c.args.at c.args.i _ c.in_err-next.ensures)
 
-pub may_end-requires : goal.may_end-requires
-may_end-requires c = c.in_ok-next.ensures.inside
-
 pub returns-then-not-may_end : goal.returns-then-not-may_end
 returns-then-not-may_end c =
     exit_passed c.args.text.now c.args.at c.args.i c.in_ok-next.ensures ∙ told _ _ _ c.may_end.ensures c.if-not-may_end.true

@@ -2,14 +2,8 @@
 use Rattle.std.proofs.Common.{refl, ◌∙◌, arith}
 use Rattle.text.specs.Standing.{Passed}
 use Rattle.stg.proofs.NextNumbers.{seen}
-use Rattle.stg.proofs.RestOfLine.{passing_none, passing_more, passing_bad, passing_end}
+use Rattle.stg.proofs.RestOfLine.{passing_more, passing_bad, passing_end}
 use Rattle.stg.proofs.predecessors.take_predecessors.Goals as goal
-
-pub loop-next-init : goal.loop-next-init
-loop-next-init c = (
-  refl,
-  passing_none c.args.text.now c.args.at c.args.i c.args.arrows.now.row.now c.args.arrows.now.count (omega arith) (omega arith),
-)
 
 pub returns-in-Misshapen : goal.returns-in-Misshapen
 returns-in-Misshapen c =
@@ -20,15 +14,6 @@ returns-in-LineEnd c = (
   c.loop-next.invariant.0,
   passing_end c.loop-next.invariant.1 (seen c.args.text.now c.loop-next.here _ _ c.in-LineEnd.is (omega arith) c.next_number.ensures),
 )
-
-pub add-requires : goal.add-requires
-add-requires c = (omega arith, omega arith)
-
-pub overflow_add-count : goal.overflow_add-count
-overflow_add-count c =
-    let passed : Passed c.args.text.now c.loop-next.here c.in-Field.p c.in-Field.past =
-    seen c.args.text.now c.loop-next.here _ _ c.in-Field.is (omega arith) c.next_number.ensures in
-    omega arith
 
 pub loop-next-smaller : goal.loop-next-smaller
 loop-next-smaller c =

@@ -1,10 +1,6 @@
 -- `task_line`: a line has the shape of a task's, or has not. Assumes nothing.
-use Rattle.std.proofs.Common.{arith}
 use Rattle.stg.proofs.OneLine.{headed, task_none, task_one, task_two, task_bad, task_other, task_miss, task_is}
 use Rattle.stg.proofs.tasks.task_line.Goals as goal
-
-pub number-requires : goal.number-requires
-number-requires c = c.requires.0
 
 pub returns-in_err-index : goal.returns-in_err-index
 returns-in_err-index c = rw c.from_residual.ensures (task_none c.args.text.now c.args.at _ c.in_err-index.ensures)
@@ -12,24 +8,13 @@ returns-in_err-index c = rw c.from_residual.ensures (task_none c.args.text.now c
 pub returns-then-index-i : goal.returns-then-index-i
 returns-then-index-i c = task_other c.args.text.now c.args.at _ c.in_ok-index.ensures c.if-index-i.true
 
-pub number-requires-2 : goal.number-requires-2
-number-requires-2 c = c.in_ok-index.ensures.inside
-
 pub returns-in_err-time : goal.returns-in_err-time
 returns-in_err-time c =
     rw c.from_residual-in_err-time.ensures (task_one c.args.text.now c.args.at _ c.in_ok-index.ensures c.in_err-time.ensures)
 
-pub number-requires-3 : goal.number-requires-3
-number-requires-3 c = c.in_ok-time.ensures.inside
-
 pub returns-in_err-count : goal.returns-in_err-count
 returns-in_err-count c =
     rw c.from_residual-in_err-count.ensures (task_two c.args.text.now c.args.at _ c.in_ok-index.ensures c.in_ok-time.ensures c.in_err-count.ensures)
-
-pub take_predecessors-requires : goal.take_predecessors-requires
-take_predecessors-requires c =
-    let head = headed c.in_ok-index.ensures c.in_ok-time.ensures c.in_ok-count.ensures in
-    (head.inside, omega arith, omega (arith, head.on))
 
 pub returns-in_err-rest : goal.returns-in_err-rest
 returns-in_err-rest c =

@@ -1,17 +1,10 @@
 -- `put_subtasks`: the lines of the subtasks, one by one: whoever puts those that remain has put all. Assumes nothing.
-use Rattle.std.proofs.Common.{refl, ◌∙◌, arith}
-use Rattle.writer.proofs.TableRows.{row_at}
+use Rattle.std.proofs.Common.{refl, ◌∙◌}
 use Rattle.writer.proofs.SubtaskTexts.{lines_all, line_room, lines_next, lines_end}
 use Rattle.writer.proofs.lines.put_subtasks.Goals as goal
 
 pub loop-i-init : goal.loop-i-init
 loop-i-init c = (refl, lines_all _ _ _ _ _ c.requires.1)
-
-pub shown-row-requires : goal.shown-row-requires
-shown-row-requires c = (row_at c.requires.0 _ c.loop-i-test.true, c.requires.0.few)
-
-pub overflow_cast-i : goal.overflow_cast-i
-overflow_cast-i c = omega (arith, c.requires.0.count)
 
 pub put_line-requires : goal.put_line-requires
 put_line-requires c = (

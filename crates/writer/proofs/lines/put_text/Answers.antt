@@ -3,10 +3,6 @@ use Rattle.std.proofs.Common.{arith, rules, sym, ◌∙◌}
 use Rattle.writer.proofs.WholeTexts.{entry_room, subtasks_room, exit_room, text_stands, left_in}
 use Rattle.writer.proofs.lines.put_text.Goals as goal
 
-pub overflow_cast-n : goal.overflow_cast-n
-overflow_cast-n c =
-    omega (arith, c.requires.0.count)
-
 pub put_line-requires : goal.put_line-requires
 put_line-requires c =
     (omega arith, entry_room _ _ _ _ c.requires.2 c.put_number.ensures.put c.end_line.ensures.put)

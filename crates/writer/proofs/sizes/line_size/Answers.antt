@@ -1,15 +1,10 @@
 -- `line_size`: the line of a task, number by number: what is counted and what remains make up the line. Assumes nothing.
-use Rattle.std.proofs.Common.{arith}
 use Rattle.writer.proofs.TaskLines.{counted_none, counted_next, counted_all}
 use Rattle.writer.proofs.sizes.line_size.Goals as goal
 
 pub loop-x-init : goal.loop-x-init
 loop-x-init c =
     counted_none _ _ _ _ _ _ c.number_size.ensures c.number_size-2.ensures c.number_size-3.ensures
-
-pub overflow_add-size-in-loop-x-2 : goal.overflow_add-size-in-loop-x-2
-overflow_add-size-in-loop-x-2 c =
-    omega (arith, c.loop-x.invariant.most, c.loop-x.invariant.inside, c.requires, c.number_size-in-loop-x.ensures.2)
 
 pub loop-x-preserved : goal.loop-x-preserved
 loop-x-preserved c =

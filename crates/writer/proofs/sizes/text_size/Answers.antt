@@ -1,11 +1,6 @@
 -- `text_size`: the lengths of the parts, together. Assumes nothing.
-use Rattle.std.proofs.Common.{arith}
 use Rattle.writer.proofs.WholeTexts.{text_counted}
 use Rattle.writer.proofs.sizes.text_size.Goals as goal
-
-pub overflow_cast-n : goal.overflow_cast-n
-overflow_cast-n c =
-    omega (arith, c.requires.0.count)
 
 pub returns : goal.returns
 returns c =
