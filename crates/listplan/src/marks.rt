@@ -65,9 +65,11 @@ impl Marks {
         ensures { self.new ≡ set self.old x false }
     {
         self.places[x] = false;
-        let end = x / 16 * 16 + 16;
-        if !self.places[x + 1..end].contains(&true) {
-            self.groups[x / 16] = false;
+        for y in x + 1..x / 16 * 16 + 16 {
+            if self.places[y] {
+                return;
+            }
         }
+        self.groups[x / 16] = false;
     }
 }
