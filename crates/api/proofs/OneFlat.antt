@@ -1,7 +1,5 @@
 -- No second flat reply, and no second state of a lent row, satisfies the statement over an exported function. Assumes nothing.
-use mathlib.Core.Path.{◌≡◌, sym, ap, ◌∙◌}
-use mathlib.Core.List.{List}
-use Prim.Native.Nat.{ℕ}
+use Rattle.std.proofs.Common.{◌≡◌, sym, ap, ◌∙◌, List, ℕ}
 use Rattle.terms.specs.Joins.{Graph}
 use Rattle.terms.specs.Replies.{IsTotalWork, IsLongestPath, IsAnswer, IsChecked, IsListed, IsWritten, IsJoined, IsNestMeasure}
 use Rattle.terms.specs.Readings.{IsRead}

@@ -1,9 +1,5 @@
 -- What the reader and the joins count and the writer writes has room in 32 bits. Assumes nothing.
-use mathlib.Core.Path.{◌≡◌}
-use mathlib.Core.List.{List}
-use Prim.Native.Nat.{ℕ, ◌≤◌}
-use native.Mathlib.Omega.{arith}
-use lib.ListN.{length}
+use Rattle.std.proofs.Common.{List, ℕ, arith, length}
 use Rattle.terms.specs.Graphs.{In16Bits}
 use Rattle.terms.specs.Readings.{IsRead}
 use Rattle.terms.specs.Joins.{Graph}

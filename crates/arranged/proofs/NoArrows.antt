@@ -1,11 +1,11 @@
 -- Those that no arrow has at one side: marked arrow by arrow, put to the front of a row one by one; in an accepted graph they are those without
 -- successors, or without predecessors. Assumes nothing.
 use Rattle.std.proofs.Common.{◌≡◌, refl, sym, ap, ap₂, ◌∙◌, Bool, true, false, cond, List, [], ◌∷◌, ◌++◌, append-nil, ℕ, zero, suc, ◌+◌, ◌≤◌, ◌<◌, min, arith, eqb, length, get_or, set, take, drop, replicate, length-set, length-append, take-suc, drop-cons, take_at, get_or-set_same, get_or-set_other, eq-eqb, ne_eqb, eqb-true}
-use native.Mathlib.Decide.{ℕ_discrete}
-use mathlib.Core.Logic.{by_cases}
-use lib.ListN.{length-replicate, get_or-replicate}
-use lib.Seq.{take-length, append_snoc, set_at}
-use borrow.Author.Tests.{eqb-false}
+use Rattle.std.proofs.Math.Decide.{ℕ_discrete}
+use Rattle.std.proofs.Math.Logic.{by_cases}
+use Rattle.std.proofs.lemmas.List.{length-replicate, get_or-replicate, set_at}
+use Rattle.std.proofs.Math.Seq.{take-length, append_snoc}
+use Rattle.std.proofs.lemmas.Bool.{eqb-false}
 use Rattle.terms.specs.Graphs.{from_of, to_of}
 use Rattle.terms.specs.Arrangements.{has_arrow, passing, predecessors_of, successors_of, is_none, lasts_of, firsts_of}
 use Rattle.theory.specs.Sound.{SoundGraph}

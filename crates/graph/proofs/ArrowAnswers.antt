@@ -1,8 +1,8 @@
 -- From what the scans and the order say to the answer of the rows 4 to 7, and of 4 alone. Assumes nothing.
 use Rattle.std.proofs.Common.{refl, ℕ, ◌+◌, ◌≤◌, ◌<◌, false, true, List, [], ◌∷◌, length, arith, ◌≢◌, Some, None}
 use mathlib.Core.Logic.Dec
-use mathlib.Core.Logic.{by_cases}
-use native.Mathlib.Decide.{dec_le}
+use Rattle.std.proofs.Math.Logic.{by_cases}
+use Rattle.std.proofs.Math.Decide.{dec_le}
 use Rattle.terms.specs.Rows.{Smallest, Accepted, RefusedBy}
 use Rattle.terms.specs.Graphs.{Among, from_of, to_of, LeadsTo}
 use Rattle.terms.specs.Refusals.{first_arrow, NamesOutside, Repeats, count_rows, time_rows, subtask_rows, size_rows, arrow_rows}

@@ -1,8 +1,8 @@
 -- The chains of arrows: how they grow by an arrow, and how a walk goes along one. Assumes nothing.
 use Rattle.std.proofs.Common.{◌≡◌, refl, sym, ap, ◌∙◌, ◌≢◌, List, ℕ, ◌+◌, ◌-◌, ◌≤◌, ◌<◌, arith, length, get_or, set, replicate, length-set, below_more}
-use mathlib.Core.Logic.{by_cases}
-use native.Mathlib.Decide.{ℕ_discrete, dec_le}
-use lib.ListN.{length-replicate, get_or-replicate}
+use Rattle.std.proofs.Math.Logic.{by_cases}
+use Rattle.std.proofs.Math.Decide.{ℕ_discrete, dec_le}
+use Rattle.std.proofs.lemmas.List.{length-replicate, get_or-replicate}
 use Rattle.terms.specs.Graphs.{Among, from_of, to_of}
 use Rattle.graph.specs.Chains.{Tidy, Last, Chains}
 use Rattle.theory.proofs.Stores.{read_set}

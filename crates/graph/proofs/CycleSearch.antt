@@ -1,7 +1,6 @@
 -- The search back along the arrows from a root: what holds all along it, at its start and at its end, and how each step keeps it. Assumes nothing.
 use Rattle.std.proofs.Common.{◌≡◌, refl, sym, ap, ◌∙◌, ℕ, zero, suc, ◌+◌, ◌-◌, ◌≤◌, ◌<◌, Bool, true, false, cond, List, ◌∷◌, map, length, get_or, arith, ◌≢◌, set, replicate, length-set, get_or-set_same, get_or-set_other, below_more}
-use Rattle.std.proofs.lemmas.List.{get_or-map, map-set}
-use lib.ListN.{length-map, length-replicate}
+use Rattle.std.proofs.lemmas.List.{get_or-map, map-set, length-map, length-replicate}
 use Rattle.terms.specs.Graphs.{Among, from_of, to_of, Precedes, LeadsTo, step, more}
 use Rattle.theory.proofs.Stores.{read_set}
 use Rattle.theory.proofs.Tallies.{tally, tally_all}

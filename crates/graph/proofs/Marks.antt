@@ -1,6 +1,6 @@
 -- The marks of the walk back along the arrows, and how many subtasks are new or not placed. Assumes nothing.
 use Rattle.std.proofs.Common.{◌≡◌, refl, sym, ap, ◌∙◌, ◌≢◌, List, ℕ, zero, suc, ◌+◌, ◌≤◌, ◌<◌, arith, length, get_or, set, replicate}
-use lib.ListN.{get_or-replicate}
+use Rattle.std.proofs.lemmas.List.{get_or-replicate}
 use Rattle.terms.specs.Graphs.{Among}
 use Rattle.theory.proofs.Stores.{read_set}
 use Rattle.theory.proofs.Tallies.{tally, tally_set}

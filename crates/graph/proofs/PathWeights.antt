@@ -1,8 +1,8 @@
 -- The weights of the paths, found in an order with predecessors first, give the longest path. Assumes nothing.
 use Rattle.std.proofs.Common.{◌≡◌, refl, sym, ap, ◌∙◌, ◌⊎◌, inl, inr, ⊎_elim, List, [], ◌∷◌, ℕ, suc, ◌+◌, ◌-◌, ◌*◌, ◌≤◌, ◌<◌, max, arith, length, get_or, set, replicate, length-set, get_or-set_same, get_or-set_other, below_more, sum_by}
-use mathlib.Core.Logic.{by_cases}
-use native.Mathlib.Decide.{ℕ_discrete, dec_le}
-use lib.ListN.{length-replicate, get_or-replicate}
+use Rattle.std.proofs.Math.Logic.{by_cases}
+use Rattle.std.proofs.Math.Decide.{ℕ_discrete, dec_le}
+use Rattle.std.proofs.lemmas.List.{length-replicate, get_or-replicate}
 use Rattle.terms.specs.Graphs.{Among, IsSubtask, time_of, from_of, to_of, Precedes}
 use Rattle.std.proofs.lemmas.List.Sums.{sum_by-cons}
 use Rattle.terms.specs.Sums.{sum}

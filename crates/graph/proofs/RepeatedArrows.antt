@@ -1,8 +1,8 @@
 -- The first arrow that is the same as one before it, found along the chains. Assumes nothing.
 use Rattle.std.proofs.Common.{◌≡◌, refl, sym, ◌∙◌, ℕ, ◌+◌, ◌-◌, ◌≤◌, ◌<◌, List, length, get_or, arith, Option, Some, None, min, ⊎_elim, eq-or-lt_of_le, set, replicate, length-set}
-use mathlib.Core.Logic.{by_cases}
-use native.Mathlib.Decide.{dec_le}
-use lib.ListN.{length-replicate, get_or-replicate}
+use Rattle.std.proofs.Math.Logic.{by_cases}
+use Rattle.std.proofs.Math.Decide.{dec_le}
+use Rattle.std.proofs.lemmas.List.{length-replicate, get_or-replicate}
 use Rattle.terms.specs.Graphs.{from_of, to_of}
 use Rattle.terms.specs.Refusals.{Repeats}
 use Rattle.theory.specs.First.{IsFirst}

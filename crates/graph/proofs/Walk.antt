@@ -1,6 +1,6 @@
 -- The walk back along the arrows that leaves the order: what holds all along it, at its start and at its end. Assumes nothing.
 use Rattle.std.proofs.Common.{◌≡◌, refl, ◌≢◌, List, ℕ, ◌+◌, ◌-◌, ◌*◌, ◌≤◌, ◌<◌, arith, length, get_or, set, replicate}
-use lib.ListN.{length-replicate}
+use Rattle.std.proofs.lemmas.List.{length-replicate}
 use Rattle.terms.specs.Graphs.{Among, from_of, to_of}
 use Rattle.theory.proofs.Tallies.{tally, tally_none, tally_all}
 use Rattle.graph.specs.Chains.{Tidy, Chains}

@@ -1,7 +1,8 @@
 -- What is put down is the joined graph, and from there to the reply. Assumes nothing.
 use Rattle.std.proofs.Common.{◌≡◌, refl, sym, ap, ap₂, ◌∙◌, List, [], ◌∷◌, ◌++◌, map, ℕ, zero, suc, ◌+◌, ◌*◌, ◌≤◌, ◌<◌, min, arith, zero-add, mul-le-mul, length, get_or, take, drop, length-append, length-take-le, Result, Ok, Err}
-use mathlib.Core.List.{map-append}
-use lib.Seq.{sets, sets-eq, length-sets}
+use Rattle.std.proofs.lemmas.List.{map-append}
+use Rattle.std.proofs.lemmas.List.Edits.{sets, sets-eq}
+use Rattle.std.proofs.Math.Seq.{length-sets}
 use Rattle.terms.specs.Rows.{Accepted, RefusedBy}
 use Rattle.terms.specs.Arrangements.{predecessors_of, successors_of, is_none, lasts_of, firsts_of, for_each, out_of, sorted_by_from}
 use Rattle.terms.specs.Replies.{IsJoined}

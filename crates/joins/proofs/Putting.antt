@@ -1,10 +1,9 @@
 -- A run of arrows put down one by one. Assumes nothing.
 use Rattle.std.proofs.Common.{◌≡◌, refl, sym, ap, ap₂, ◌∙◌, ℕ, ◌+◌, ◌-◌, ◌<◌, List, [], ◌∷◌, ◌++◌, length, take, drop, get_or, arith, set, append_assoc}
-use lib.ListN.{length-map}
+use Rattle.std.proofs.lemmas.List.{length-map, map-append, length-take-le, take_more, take_at, drop_at, drop-drop}
 use borrow.Rule.Slice.PartMut.{put_mid}
-use lib.Seq.{sets, take-length}
-use mathlib.Core.List.{map-append}
-use Rattle.std.proofs.lemmas.List.{length-take-le, take_more, take_at, drop_at, drop-drop}
+use Rattle.std.proofs.lemmas.List.Edits.{sets}
+use Rattle.std.proofs.Math.Seq.{take-length}
 use Rattle.theory.proofs.Stores.{sets_append}
 use Rattle.joins.specs.Puts.{run_of}
 

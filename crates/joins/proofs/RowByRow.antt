@@ -1,9 +1,9 @@
 -- The arrows out of n subtasks put down row by row. Assumes nothing.
 use Rattle.std.proofs.Common.{◌≡◌, refl, sym, ap, ap₂, ◌∙◌, List, [], ◌∷◌, ◌++◌, map, ℕ, zero, suc, ◌+◌, ◌-◌, ◌≤◌, ◌<◌, arith, add_assoc, length, get_or, take, drop, length-append, length-drop}
-use mathlib.Core.List.{map-map, map-append}
-use lib.ListN.{length-map}
-use lib.Seq.{sets, length-sets}
-use Rattle.std.proofs.lemmas.List.{length-take-le, get_or-take, get_or-drop}
+use mathlib.Core.List.{map-map}
+use Rattle.std.proofs.lemmas.List.{map-append, length-map, length-take-le, get_or-take, get_or-drop}
+use Rattle.std.proofs.lemmas.List.Edits.{sets}
+use Rattle.std.proofs.Math.Seq.{length-sets}
 use Rattle.terms.specs.Graphs.{Among}
 use Rattle.terms.specs.Arrangements.{for_each, out_of, stretch, row_of}
 use Rattle.terms.specs.Joins.{moved}

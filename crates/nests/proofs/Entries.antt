@@ -1,6 +1,6 @@
 -- The entry at a place of a nest's row: a graph or none, an opener of a kind or none. Assumes nothing.
 use Rattle.std.proofs.Common.{◌≡◌, sym, ap, ◌∙◌, List, [], ◌∷◌, ℕ, suc, ◌+◌, ◌-◌, ◌≤◌, ◌<◌, arith, length, get_or, drop, length-drop, drop_of_length-le, drop-cons, Some, None}
-use lib.ListN.{length-map}
+use Rattle.std.proofs.lemmas.List.{length-map}
 use Rattle.terms.specs.Graphs.{Among}
 use Rattle.terms.specs.Nests.{InRange, three, numbers_of}
 use Rattle.nests.specs.Walks.{entries_from, weights_of, BeginsGraph, BeginsOpener, CountsAt, GraphAt}

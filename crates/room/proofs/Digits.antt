@@ -1,7 +1,7 @@
 -- The digits of a number put from the last to the first: whoever puts those that are left has put them all. Assumes nothing.
 use Rattle.std.proofs.Common.{◌≡◌, sym, ap, ◌∙◌, List, [], ◌∷◌, ◌++◌, ℕ, ◌+◌, ◌-◌, ◌/◌, ◌%◌, ◌≤◌, ◌<◌, length, set, arith, length-append}
-use mathlib.Core.Logic.{by_cases}
-use native.Mathlib.Decide.{dec_le}
+use Rattle.std.proofs.Math.Logic.{by_cases}
+use Rattle.std.proofs.Math.Decide.{dec_le}
 use Rattle.std.proofs.lemmas.List.Edits.{sets}
 use Rattle.terms.specs.Writings.{decimal}
 use Rattle.theory.proofs.Stores.{sets_last}

@@ -1,8 +1,9 @@
 -- Bytes in a room, one behind the other; the room that is left; what they leave; and no second reply. Assumes nothing.
 use Rattle.std.proofs.Common.{◌≡◌, refl, sym, ap, ap₂, ◌∙◌, List, [], ◌++◌, ℕ, ◌+◌, ◌<◌, arith, length, take, drop, length-append}
-use mathlib.Core.Logic.{by_cases}
-use native.Mathlib.Decide.{dec_le}
-use lib.Seq.{sets, sets-eq, length-sets}
+use Rattle.std.proofs.Math.Logic.{by_cases}
+use Rattle.std.proofs.Math.Decide.{dec_le}
+use Rattle.std.proofs.lemmas.List.Edits.{sets, sets-eq}
+use Rattle.std.proofs.Math.Seq.{length-sets}
 use Rattle.theory.proofs.Stores.{sets_append}
 use Rattle.room.specs.Puts.{HasRoom, Stands, Put}
 

@@ -1,8 +1,9 @@
 -- One predecessor more, in a row of arrows. Assumes nothing.
 use Rattle.std.proofs.Common.{◌≡◌, refl, sym, ap, List, [], ◌∷◌, ◌++◌, map, Bool, true, false, cond, ℕ, ◌+◌, ◌≤◌, arith, add-zero, eq-eqb, ne_eqb, eqb}
 use Rattle.std.proofs.Common.{length, set, length-append}
-use lib.ListN.{length-map}
-use lib.Seq.{sets, set_out}
+use Rattle.std.proofs.lemmas.List.{length-map}
+use Rattle.std.proofs.lemmas.List.Edits.{sets}
+use Rattle.std.proofs.Math.Seq.{set_out}
 use Rattle.terms.specs.Readings.{arrows_into}
 use Rattle.theory.proofs.Stores.{sets_append}
 use Rattle.stg.specs.LinesRead.{clipped, hold, held, Added}

@@ -1,8 +1,8 @@
 -- A graph whose arrows are held with clipped tails is answered by 2 to 7 as the graph itself. Assumes nothing.
 use Rattle.std.proofs.Common.{◌≡◌, refl, sym, ◌⊎◌, inl, inr, ⊎_elim, List, [], ◌∷◌, ◌++◌, map, Bool, true, false, ℕ, zero, suc, ◌-◌, ◌≤◌, ◌<◌, arith, le-leb}
 use Rattle.std.proofs.Common.{leb-true, leb-false, leb, length, get_or, take, Result, Ok, Err}
-use borrow.Author.Tests.{lt-leb}
-use lib.ListN.{length-map}
+use Rattle.std.proofs.lemmas.Bool.{lt-leb}
+use Rattle.std.proofs.lemmas.List.{length-map}
 use Rattle.terms.specs.Rows.{Smallest, IsAt, Accepted, RefusedBy}
 use Rattle.terms.specs.Graphs.{Among, IsSubtask, from_of, to_of}
 use Rattle.terms.specs.Refusals.{SomeArrow, NamesOutside, ArrowAt, count_rows, time_rows, subtask_rows, size_rows, arrow_rows, time_and_arrow_rows, graph_rows}

@@ -1,7 +1,7 @@
 -- The lines after the last task's: a line of spaces and tabs is one without fields, and a comment begins with #. Assumes nothing.
 use Rattle.std.proofs.Common.{◌≡◌, refl, sym, ap, List, [], ◌∷◌, map, Bool, true, false, not, ℕ, suc, ◌+◌, ◌≤◌, ◌<◌, arith, ne_eqb, eqb, Option, Some, None}
 use Rattle.std.proofs.Common.{length, get_or, drop, drop_of_length-le, drop-cons, drop-drop}
-use mathlib.Core.Bool.{or-true}
+use Rattle.std.proofs.Math.Bool.{or-true}
 use Rattle.terms.specs.Texts.{all_pass, begins, onto, is_blank, is_field, value, lines, fields, proper, numbers, ends_here}
 use Rattle.terms.specs.Readings.{refuse, graph, may_follow, trailer}
 use Rattle.text.specs.Steps.{line_size}

@@ -1,8 +1,8 @@
 -- The line at hand, the first line, a task's line and a dummy's. Assumes nothing.
 use Rattle.std.proofs.Common.{◌≡◌, refl, sym, ◌∙◌, ap, List, [], ◌∷◌, Bool, true, false, ◌&&◌, ℕ, suc, ◌≤◌, ◌<◌, arith, eq-eqb, ne_eqb, le-leb, le-ltb}
 use Rattle.std.proofs.Common.{eqb, leb, ltb, length, get_or, drop, drop-cons}
-use mathlib.Core.Bool.{and-false}
-use borrow.Author.Tests.{lt-leb}
+use Rattle.std.proofs.Math.Bool.{and-false}
+use Rattle.std.proofs.lemmas.Bool.{lt-leb}
 use Rattle.terms.specs.Texts.{all_pass, lines, proper, numbers}
 use Rattle.terms.specs.Readings.{Reading, refuse, line_at_hand, lines_after, is_size, is_first, is_shape, is_task, is_entry_dummy, is_exit_dummy, predecessors_in}
 use Rattle.terms.specs.Readings.{trailer, exit_line, task_lines, entry_line, read_lines}

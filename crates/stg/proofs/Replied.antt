@@ -1,8 +1,8 @@
 -- From the room, the lines and the check to the reply. Assumes nothing.
 use Rattle.std.proofs.Common.{◌≡◌, refl, sym, ◌∙◌, ap, List, map, ℕ, ◌+◌, ◌≤◌, arith, le-leb, length, take, drop, take_at}
 use Rattle.std.proofs.Common.{Result, Ok, Err}
-use lib.ListN.{length-map}
-use lib.Seq.{sets, sets-eq}
+use Rattle.std.proofs.lemmas.List.{length-map}
+use Rattle.std.proofs.lemmas.List.Edits.{sets, sets-eq}
 use Rattle.terms.specs.Rows.{Accepted}
 use Rattle.terms.specs.Graphs.{Among}
 use Rattle.terms.specs.Refusals.{time_and_arrow_rows}

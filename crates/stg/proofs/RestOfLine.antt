@@ -1,8 +1,8 @@
 -- The rest of a line, predecessor by predecessor: what is passed and what is left make up the same. Assumes nothing.
 use Rattle.std.proofs.Common.{ℕ, ◌+◌, ◌≤◌, ◌<◌, ◌≡◌, refl, sym, ◌∙◌, ap, ⊎_elim, List, [], ◌∷◌, Bool, true, false, ◌&&◌, arith, add-zero, eq-or-lt_of_le}
 use Rattle.std.proofs.Common.{length, drop, ltb}
-use mathlib.Core.Bool.{and-true, and_assoc}
-use lib.Seq.{sets}
+use Rattle.std.proofs.Math.Bool.{and-true, and_assoc}
+use Rattle.std.proofs.lemmas.List.Edits.{sets}
 use Rattle.terms.specs.Texts.{all_pass, proper, numbers}
 use Rattle.terms.specs.Readings.{arrows_into}
 use Rattle.text.specs.Rest.{line, later}

@@ -1,9 +1,9 @@
 -- What the subtasks' lines put into the two rows. Assumes nothing.
 use Rattle.std.proofs.Common.{ℕ, suc, ◌+◌, ◌-◌, ◌≤◌, ◌<◌, ◌≡◌, refl, ◌∙◌, ap, List, map, Bool, false, arith, add-one, le-leb, length, drop, set, length-append}
 use Rattle.std.proofs.Common.{leb}
-use borrow.Author.Tests.{lt-leb}
-use lib.ListN.{length-map}
-use lib.Seq.{sets}
+use Rattle.std.proofs.lemmas.Bool.{lt-leb}
+use Rattle.std.proofs.lemmas.List.{length-map}
+use Rattle.std.proofs.lemmas.List.Edits.{sets}
 use Rattle.terms.specs.Texts.{lines}
 use Rattle.text.specs.Rest.{line, later}
 use Rattle.terms.specs.Readings.{Reading, refuse, graph, need, is_task, time_in, predecessors_in, arrows_into, with_task, task_lines, exit_line}

@@ -1,10 +1,7 @@
 -- Demand 3's words on graph G: examples 2, 3 and 4 together are an altered G. Assumes nothing.
-use mathlib.Core.Path.{◌≡◌, refl, ◌∙◌}
+use Rattle.std.proofs.Common.{◌≡◌, refl, ◌∙◌, List, ℕ, ◌<◌, length}
 use mathlib.Core.Logic.Dec
-use mathlib.Core.List.{List}
-use Prim.Native.Nat.{ℕ, ◌<◌}
-use native.Mathlib.Decide.{dec_le, dec_lt, ℕ_discrete}
-use lib.ListN.{length}
+use Rattle.std.proofs.Math.Decide.{dec_le, dec_lt, ℕ_discrete}
 use Rattle.terms.specs.Graphs.{Among, time_of, from_of, to_of, Precedes}
 use Rattle.terms.specs.Refusals.{Repeats}
 use Rattle.terms.specs.Alterations.{Altered, Dropped, none, keep, omit}

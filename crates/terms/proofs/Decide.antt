@@ -1,14 +1,8 @@
 -- The conditions of docs/PLANNER.md over given numbers can be decided, by decisions that compute. Assumes nothing.
-use mathlib.Core.Path.{◌≡◌, refl, sym}
+use Rattle.std.proofs.Common.{◌≡◌, refl, sym, ◌≢◌, ◌⊎◌, inl, inr, List, Bool, true, false, ℕ, zero, suc, ◌-◌, ◌≤◌, ◌<◌, arith, length, get_or, T}
 use mathlib.Core.Logic.Dec
-use mathlib.Core.Logic.{◌≢◌, ◌⊎◌, inl, inr, by_cases}
-use mathlib.Core.List.{List}
-use mathlib.Core.Bool.{Bool, true, false}
-use Prim.Native.Nat.{ℕ, zero, suc, ◌-◌, ◌≤◌, ◌<◌}
-use native.Mathlib.Omega.{arith}
-use native.Mathlib.Decide.{dec_le, dec_lt, ℕ_discrete}
-use lib.ListN.{length, get_or}
-use lib.Dec.{T}
+use Rattle.std.proofs.Math.Logic.{by_cases}
+use Rattle.std.proofs.Math.Decide.{dec_le, dec_lt, ℕ_discrete}
 use Rattle.terms.specs.Graphs.{Among, IsSubtask, from_of, to_of, Precedes}
 use Rattle.terms.specs.Plans.{Placed, processor_of, start_of, end_of, RunsAt, ReadyAt, FreeAt, IdleAt}
 use Rattle.terms.specs.ListRule.{IsOrder}

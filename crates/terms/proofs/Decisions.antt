@@ -1,12 +1,8 @@
 -- A row of each kind is decided together with its place, and so is a whole table, by decisions that compute. Assumes nothing.
-use mathlib.Core.Path.{◌≡◌, refl, subst, sym}
+use Rattle.std.proofs.Common.{◌≡◌, refl, subst, sym, ◌≢◌, ◌⊎◌, inl, inr, List, [], ◌∷◌, ◌++◌, ℕ, suc, ◌-◌, ◌<◌, arith, length}
 use mathlib.Core.Logic.Dec
-use mathlib.Core.Logic.{◌≢◌, ◌⊎◌, inl, inr, by_cases}
-use mathlib.Core.List.{List, [], ◌∷◌, ◌++◌}
-use Prim.Native.Nat.{ℕ, suc, ◌-◌, ◌<◌}
-use native.Mathlib.Omega.{arith}
-use native.Mathlib.Decide.{dec_lt}
-use lib.ListN.{length}
+use Rattle.std.proofs.Math.Logic.{by_cases}
+use Rattle.std.proofs.Math.Decide.{dec_lt}
 use Rattle.terms.specs.Rows.{IsAt, Row, row, Accepted, Gives, RefusedBy, number_of, place_of, second_of}
 use Rattle.terms.specs.Graphs.{IsSubtask}
 use Rattle.terms.specs.Refusals.{SomeSubtask, PairAt, first_subtask, first_arrow, smallest_pair, lowest}

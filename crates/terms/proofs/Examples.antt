@@ -1,13 +1,8 @@
 -- The starred examples 1 to 10 and 14 of docs/PLANNER.md, shown from the definitions alone. Assumes nothing.
-use mathlib.Core.Path.{◌≡◌, refl, sym}
+use Rattle.std.proofs.Common.{◌≡◌, refl, sym, List, [], ◌∷◌, ℕ, arith, T, length, replicate, take, drop}
 use mathlib.Core.Logic.Dec
-use mathlib.Core.List.{List, [], ◌∷◌}
-use Prim.Native.Nat.{ℕ}
-use native.Mathlib.Omega.{arith}
-use native.Mathlib.Decide.{dec_le, dec_lt, ℕ_discrete}
-use lib.Dec.{T}
+use Rattle.std.proofs.Math.Decide.{dec_le, dec_lt, ℕ_discrete}
 use lib.Ieee.{binary32, round, to_bits}
-use lib.ListN.{length, replicate, take, drop}
 use Rattle.terms.specs.Rows.{Accepted}
 use Rattle.terms.specs.Graphs.{IsSubtask, time_of, from_of, to_of, Precedes, LeadsTo}
 use Rattle.terms.specs.Sums.{sum}

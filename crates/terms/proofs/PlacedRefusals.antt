@@ -1,11 +1,7 @@
 -- A refusal with its place over given numbers, one of each kind of row, shown from the definitions alone. Assumes nothing.
-use mathlib.Core.Path.{◌≡◌, refl}
+use Rattle.std.proofs.Common.{◌≡◌, refl, List, [], ◌∷◌, ℕ, ◌<◌, T, length}
 use mathlib.Core.Logic.Dec
-use mathlib.Core.List.{List, [], ◌∷◌}
-use Prim.Native.Nat.{ℕ, ◌<◌}
-use native.Mathlib.Decide.{dec_le, dec_lt, ℕ_discrete}
-use lib.Dec.{T}
-use lib.ListN.{length}
+use Rattle.std.proofs.Math.Decide.{dec_le, dec_lt, ℕ_discrete}
 use Rattle.terms.specs.Rows.{IsAt, RefusedBy}
 use Rattle.terms.specs.Graphs.{time_of, from_of, to_of, LeadsTo, step, more}
 use Rattle.terms.specs.Plans.{at, processor_of, start_of, end_of}

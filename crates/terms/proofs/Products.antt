@@ -1,12 +1,8 @@
 -- Examples 15 and 16 of docs/PLANNER.md, a join and a nest, and rows that are no nest, from the definitions alone. Assumes nothing.
-use mathlib.Core.Path.{◌≡◌, refl, sym, ap, ap₂}
+use Rattle.std.proofs.Common.{◌≡◌, refl, sym, ap, ap₂, List, [], ◌∷◌, ℕ, suc, ◌≤◌, arith, length, replicate}
 use mathlib.Core.Logic.Dec
-use mathlib.Core.List.{List, [], ◌∷◌}
-use Prim.Native.Nat.{ℕ, suc, ◌≤◌}
-use native.Mathlib.Nat.{suc_inj}
-use native.Mathlib.Omega.{arith}
-use native.Mathlib.Decide.{dec_le, dec_lt, ℕ_discrete}
-use lib.ListN.{length, replicate}
+use Rattle.std.proofs.Math.Nat.{suc_inj}
+use Rattle.std.proofs.Math.Decide.{dec_le, dec_lt, ℕ_discrete}
 use Rattle.terms.specs.Graphs.{time_of, from_of, to_of}
 use Rattle.terms.specs.Sums.{sum}
 use Rattle.terms.specs.Paths.{total_work, alone, along, weight}

@@ -1,7 +1,5 @@
 -- Texts of docs/PLANNER.md and at its edges, read by computation from the definitions alone. Assumes nothing.
-use mathlib.Core.Path.{◌≡◌, refl}
-use mathlib.Core.List.{List, [], ◌∷◌, ◌++◌}
-use Prim.Native.Nat.{ℕ}
+use Rattle.std.proofs.Common.{◌≡◌, refl, List, [], ◌∷◌, ◌++◌, ℕ}
 use Rattle.terms.specs.Texts.{all_pass, lines, fields, value_from, proper, numbers, blanks, digits}
 use Rattle.terms.specs.Readings.{Reading, refuse, graph, is_size, is_first, is_shape, is_task, is_entry_dummy, is_exit_dummy, may_follow, arrows_into}
 use Rattle.terms.specs.Readings.{with_task, trailer, exit_line, task_lines, entry_line, read_lines, read_text}

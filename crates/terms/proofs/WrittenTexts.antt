@@ -1,6 +1,5 @@
 -- Graphs written as texts and their arrows sorted, by computation from the definitions alone. Assumes nothing.
-use mathlib.Core.Path.{◌≡◌, refl}
-use mathlib.Core.List.{[], ◌∷◌, ◌++◌}
+use Rattle.std.proofs.Common.{◌≡◌, refl, [], ◌∷◌, ◌++◌}
 use Rattle.terms.specs.Arrangements.{has_arrow, passing, lasts_of, for_each, sorted_by_to, sorted_by_from, stretch, row_of}
 use Rattle.terms.specs.Writings.{decimal_in, decimal, further, line, text_of, with_count, subtask_lines, exit_numbers, stg_lines, stg_text}
 use Rattle.terms.proofs.Examples.{times_g, arrows_g}

@@ -1,8 +1,8 @@
 -- The rest of a line, its fields and the lines after it, from a place of a text on. Assumes nothing.
 use Rattle.std.proofs.Common.{ℕ, suc, ◌+◌, ◌≤◌, ◌<◌, ◌≡◌, refl, sym, ◌∙◌, ap, List, [], ◌∷◌, ◌++◌, Bool, true, false, cond, not, ◌&&◌, ◌||◌, arith, ◌⊎◌}
 use Rattle.std.proofs.Common.{inl, inr, length, drop, get_or, drop-cons, eqb, leb, eqb-true, ne_eqb}
-use mathlib.Core.Bool.{and-false}
-use borrow.Author.Tests.{not-true}
+use Rattle.std.proofs.Math.Bool.{and-false}
+use Rattle.std.proofs.lemmas.Bool.{not-true}
 use Rattle.terms.specs.Texts.{all_pass, is_blank, is_digit, is_feed, is_return, begins, onto, lines, fields, is_field, proper, numbers, ends_here, blanks, digits}
 use Rattle.text.proofs.Digits.{false_true, both, digit_bounds}
 use Rattle.text.specs.Steps.{line_size}

@@ -1,8 +1,8 @@
 -- What stands next at a place of a text: the equations of `next_number`, and what it tells about the line there. Assumes nothing.
 use Rattle.std.proofs.Common.{ℕ, ◌+◌, ◌≤◌, ◌<◌, ◌≡◌, refl, sym, ◌∙◌, ap, List, [], ◌∷◌, ◌++◌, Bool, true, false, cond, ◌&&◌, arith, add-zero, eq-or-lt_of_le}
 use Rattle.std.proofs.Common.{⊎_elim, leb, length, drop, get_or, drop-drop, ne_eqb, le-leb}
-use mathlib.Core.Bool.{and-true}
-use borrow.Author.Tests.{lt-leb}
+use Rattle.std.proofs.Math.Bool.{and-true}
+use Rattle.std.proofs.lemmas.Bool.{lt-leb}
 use Rattle.terms.specs.Texts.{all_pass, is_digit, fields, is_field, value, proper, numbers, ends_here, blanks, digits}
 use Rattle.text.specs.declared.Next.{Next}
 use Rattle.text.specs.declared.Next.TheVariants as next

@@ -1,11 +1,8 @@
 -- Acceptance by the table is the same as the facts of SoundGraph, SoundPlan and BusyPlan, and what else each call asks. Assumes nothing.
 use mathlib.Core.Logic.Dec
-use mathlib.Core.Logic.{inl, inr, ⊎_elim, by_cases}
-use mathlib.Core.List.{List}
-use Prim.Native.Nat.{ℕ, ◌≤◌, ◌<◌}
-use native.Mathlib.Omega.{arith}
-use native.Mathlib.Decide.{dec_le, ℕ_discrete}
-use lib.ListN.{length}
+use Rattle.std.proofs.Common.{inl, inr, ⊎_elim, List, ℕ, ◌≤◌, ◌<◌, arith, length}
+use Rattle.std.proofs.Math.Logic.{by_cases}
+use Rattle.std.proofs.Math.Decide.{dec_le, ℕ_discrete}
 use Rattle.terms.specs.Rows.{Accepted, RefusedBy}
 use Rattle.terms.specs.Graphs.{Among, IsSubtask, time_of, from_of, to_of, Precedes}
 use Rattle.terms.specs.Plans.{processor_of, start_of, end_of}

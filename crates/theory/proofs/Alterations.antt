@@ -1,12 +1,8 @@
 -- Shorter times, fewer arrows, more processors: the graph stays accepted, C and P do not grow, and "fits" stays. Assumes nothing.
-use mathlib.Core.Path.{◌≡◌, refl, sym, ap, ◌∙◌}
-use mathlib.Core.Logic.{◌≢◌, by_cases}
-use mathlib.Core.List.{List}
-use Prim.Native.Nat.{ℕ, suc, ◌≤◌, ◌<◌}
-use native.Mathlib.Nat.{suc_inj}
-use native.Mathlib.Omega.{arith}
-use native.Mathlib.Decide.{dec_le, dec_lt}
-use lib.ListN.{length}
+use Rattle.std.proofs.Common.{◌≡◌, refl, sym, ap, ◌∙◌, ◌≢◌, List, ℕ, suc, ◌≤◌, ◌<◌, arith, length}
+use Rattle.std.proofs.Math.Logic.{by_cases}
+use Rattle.std.proofs.Math.Nat.{suc_inj}
+use Rattle.std.proofs.Math.Decide.{dec_le, dec_lt}
 use Rattle.terms.specs.Graphs.{Among, IsSubtask, time_of, from_of, to_of, Precedes, LeadsTo, step, more}
 use Rattle.terms.specs.Paths.{total_work, PathTo, alone, along, weight, IsLongest}
 use Rattle.terms.specs.Verdicts.{bound, sure_end}

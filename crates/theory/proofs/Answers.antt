@@ -1,13 +1,8 @@
 -- The rows of the table: there is one answer, rows asked one after the other answer as one, and a row is named by its number, not counted
 -- from the top. Assumes nothing.
-use mathlib.Core.Path.{◌≡◌, refl, ap, ap₂, sym, ◌∙◌}
-use mathlib.Core.Logic.{inl, inr, by_cases}
-use mathlib.Core.Bool.{Bool, true, false}
-use mathlib.Core.List.{List, [], ◌∷◌, ◌++◌}
-use Prim.Native.Nat.{ℕ}
-use native.Mathlib.Omega.{arith}
-use native.Mathlib.Decide.{dec_lt}
-use lib.Dec.{eqb}
+use Rattle.std.proofs.Common.{◌≡◌, refl, ap, ap₂, sym, ◌∙◌, inl, inr, Bool, true, false, List, [], ◌∷◌, ◌++◌, ℕ, arith, eqb}
+use Rattle.std.proofs.Math.Logic.{by_cases}
+use Rattle.std.proofs.Math.Decide.{dec_lt}
 use Rattle.std.specs.Prelude.{cond}
 use Rattle.terms.specs.Rows.{Smallest, Spot, nowhere, smallest, pair, IsAt, Row, row as plain, Accepted, Gives, RefusedBy, number_of, place_of, second_of}
 use Rattle.terms.specs.declared.Refusal.{Refusal}

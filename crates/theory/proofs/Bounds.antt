@@ -1,9 +1,6 @@
 -- How large C, P and S are, and the laws of S and of the sure end. Assumes nothing.
-use mathlib.Core.Path.{◌≡◌, ap}
-use mathlib.Core.List.{List}
-use Prim.Native.Nat.{ℕ, zero, suc, ◌+◌, ◌-◌, ◌*◌, ◌≤◌, ◌<◌}
-use native.Mathlib.Nat.{mul-le-mul_left, le_dest, mul-le-mul, lt-mul-div-succ, le-div_iff_mul-le, div-lt_iff_lt-mul}
-use native.Mathlib.Omega.{arith}
+use Rattle.std.proofs.Common.{◌≡◌, ap, List, ℕ, zero, suc, ◌+◌, ◌-◌, ◌*◌, ◌≤◌, ◌<◌, mul-le-mul_left, mul-le-mul, le-div_iff_mul-le, div-lt_iff_lt-mul, arith}
+use Rattle.std.proofs.Math.Nat.{le_dest, lt-mul-div-succ}
 use Rattle.terms.specs.Graphs.{Among, In16Bits}
 use Rattle.terms.specs.Paths.{total_work, IsLongest}
 use Rattle.terms.specs.Verdicts.{bound, sure_end}

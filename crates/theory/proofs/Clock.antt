@@ -1,9 +1,7 @@
 -- The list rule's clock may jump to the next end of a placed subtask. Assumes nothing.
-use mathlib.Core.Logic.{by_cases}
-use mathlib.Core.List.{List}
-use Prim.Native.Nat.{ℕ, zero, suc, ◌≤◌, ◌<◌}
-use native.Mathlib.Omega.{arith}
-use native.Mathlib.Decide.{ℕ_discrete}
+use Rattle.std.proofs.Math.Logic.{by_cases}
+use Rattle.std.proofs.Math.Decide.{ℕ_discrete}
+use Rattle.std.proofs.Common.{List, ℕ, zero, suc, ◌≤◌, ◌<◌, arith}
 use Rattle.terms.specs.Graphs.{IsSubtask}
 use Rattle.terms.specs.Plans.{end_of, Placed, IdleAt}
 use Rattle.terms.specs.ListRule.{ByRule, tick}

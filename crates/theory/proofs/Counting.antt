@@ -1,11 +1,7 @@
 -- Counting the places that are so, and the noughts of a row. Assumes nothing.
-use mathlib.Core.Path.{◌≡◌}
-use mathlib.Core.Logic.{◌≢◌, ◌⊎◌, inl, inr, by_cases}
-use mathlib.Core.List.{List, [], ◌∷◌}
-use Prim.Native.Nat.{ℕ, zero, suc, ◌+◌, ◌-◌, ◌≤◌, ◌<◌}
-use native.Mathlib.Omega.{arith}
-use native.Mathlib.Decide.{ℕ_discrete}
-use lib.ListN.{length, get_or, set}
+use Rattle.std.proofs.Common.{◌≡◌, ◌≢◌, ◌⊎◌, inl, inr, List, [], ◌∷◌, ℕ, zero, suc, ◌+◌, ◌-◌, ◌≤◌, ◌<◌, arith, length, get_or, set}
+use Rattle.std.proofs.Math.Logic.{by_cases}
+use Rattle.std.proofs.Math.Decide.{ℕ_discrete}
 use Rattle.theory.specs.Counting.{Count}
 
 -- the same places, the same count

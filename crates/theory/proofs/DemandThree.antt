@@ -1,9 +1,5 @@
 -- Demand 3: where the verdict is "fits", no alteration makes the verdict "late" or an accepted plan end after D. Assumes nothing.
-use mathlib.Core.Path.{◌≡◌, refl}
-use mathlib.Core.List.{List}
-use Prim.Native.Nat.{ℕ, ◌-◌, ◌≤◌}
-use native.Mathlib.Omega.{arith}
-use lib.ListN.{length, take}
+use Rattle.std.proofs.Common.{◌≡◌, refl, List, ℕ, ◌-◌, ◌≤◌, arith, length, take}
 use Rattle.terms.specs.Rows.{Accepted}
 use Rattle.terms.specs.Graphs.{Among, IsSubtask, time_of}
 use Rattle.terms.specs.Paths.{total_work, IsLongest}

@@ -1,9 +1,5 @@
 -- A row with some arrows dropped is one of those of which demand 3 speaks. Assumes nothing.
-use mathlib.Core.Path.{◌≡◌, refl, sym, ap, ◌∙◌}
-use mathlib.Core.List.{List, []}
-use Prim.Native.Nat.{ℕ, zero, suc, ◌<◌}
-use native.Mathlib.Omega.{arith}
-use lib.ListN.{length, get_or}
+use Rattle.std.proofs.Common.{◌≡◌, refl, sym, ap, ◌∙◌, List, [], ℕ, zero, suc, ◌<◌, arith, length, get_or}
 use Rattle.terms.specs.Graphs.{Among, IsSubtask, time_of, from_of, to_of, Precedes}
 use Rattle.terms.specs.Alterations.{Altered, Dropped, none, keep, omit}
 use Rattle.theory.specs.Sound.{SoundGraph}

@@ -1,11 +1,8 @@
 -- The dummies of docs/PLANNER.md: at a small input each statement rules the dummy's reply out. Assumes nothing.
-use mathlib.Core.Path.{◌≡◌, refl, ap, ◌∙◌}
-use mathlib.Core.Logic.{inl, by_cases}
-use mathlib.Core.List.{List, [], ◌∷◌, ◌++◌, append_cancel_left}
-use Prim.Native.Nat.{ℕ, ◌≤◌, ◌<◌}
-use native.Mathlib.Omega.{arith}
-use native.Mathlib.Decide.{dec_le}
-use lib.ListN.{length, get_or, take, drop, replicate}
+use Rattle.std.proofs.Common.{◌≡◌, refl, ap, ◌∙◌, inl, List, [], ◌∷◌, ◌++◌, ℕ, ◌≤◌, ◌<◌, arith, length, get_or, take, drop, replicate}
+use Rattle.std.proofs.Math.Logic.{by_cases}
+use Rattle.std.proofs.lemmas.List.{append_cancel_left}
+use Rattle.std.proofs.Math.Decide.{dec_le}
 use Rattle.terms.specs.Rows.{Accepted, place_of}
 use Rattle.terms.specs.Graphs.{IsSubtask, time_of}
 use Rattle.terms.specs.Verdicts.{sure_end, IsVerdict}

@@ -1,9 +1,5 @@
 -- A plan ends somewhere, and at one place only. Assumes nothing.
-use mathlib.Core.Path.{◌≡◌, refl}
-use mathlib.Core.List.{List}
-use Prim.Native.Nat.{ℕ, ◌≤◌}
-use native.Mathlib.Omega.{arith}
-use lib.ListN.{length}
+use Rattle.std.proofs.Common.{◌≡◌, refl, List, ℕ, ◌≤◌, arith, length}
 use Rattle.terms.specs.Rows.{Accepted}
 use Rattle.terms.specs.Plans.{end_of, EndsAt}
 use Rattle.terms.specs.Refusals.{check_rows}

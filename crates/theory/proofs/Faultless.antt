@@ -1,6 +1,5 @@
 -- A graph is accepted exactly where it is without fault and within the limits. Assumes nothing.
-use mathlib.Core.Path.{refl}
-use Prim.Native.Nat.{ℕ}
+use Rattle.std.proofs.Common.{refl, ℕ}
 use Rattle.terms.specs.Graphs.{IsSubtask, Precedes, step}
 use Rattle.terms.specs.Joins.{Graph, WithinLimits}
 use Rattle.theory.specs.Sound.{SoundGraph}

@@ -1,9 +1,5 @@
 -- A scan that answers the first place, and what it says of all; what a flag says. Assumes nothing.
-use mathlib.Core.Path.{◌≡◌, subst}
-use mathlib.Core.Logic.{◌≢◌}
-use mathlib.Core.Bool.{Bool, true, false}
-use Prim.Native.Nat.{ℕ, ◌+◌, ◌-◌, ◌≤◌, ◌<◌}
-use native.Mathlib.Omega.{arith}
+use Rattle.std.proofs.Common.{◌≡◌, subst, ◌≢◌, Bool, true, false, ℕ, ◌+◌, ◌-◌, ◌≤◌, ◌<◌, arith}
 use Rattle.std.specs.Prelude.{Some, None}
 use Rattle.terms.specs.Graphs.{Among}
 use Rattle.terms.specs.declared.Subtask.{Subtask}

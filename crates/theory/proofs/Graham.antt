@@ -1,13 +1,8 @@
 -- Graham's bound: an accepted plan of an accepted graph on M processors ends at some E with M × E ≤ S, so by the sure end. Assumes nothing.
-use mathlib.Core.Path.{◌≡◌}
+use Rattle.std.proofs.Common.{◌≡◌, inl, inr, ⊎_elim, List, ℕ, suc, ◌+◌, ◌-◌, ◌*◌, ◌≤◌, ◌<◌, mul-le-mul_left, arith, length}
 use mathlib.Core.Logic.Dec
-use mathlib.Core.Logic.{inl, inr, ⊎_elim, by_cases}
-use mathlib.Core.List.{List}
-use Prim.Native.Nat.{ℕ, suc, ◌+◌, ◌-◌, ◌*◌, ◌≤◌, ◌<◌}
-use native.Mathlib.Nat.{mul-le-mul_left}
-use native.Mathlib.Omega.{arith}
-use native.Mathlib.Decide.{dec_le, dec_lt}
-use lib.ListN.{length}
+use Rattle.std.proofs.Math.Logic.{by_cases}
+use Rattle.std.proofs.Math.Decide.{dec_le, dec_lt}
 use Rattle.terms.specs.Graphs.{Among, IsSubtask, time_of, Precedes}
 use Rattle.terms.specs.Paths.{total_work, PathTo, alone, along, weight, IsLongest}
 use Rattle.terms.specs.Verdicts.{bound, sure_end}

@@ -1,13 +1,5 @@
 -- The lines of a graph, written and read again: the same times, and the arrows row by row. Assumes nothing.
-use mathlib.Core.Path.{◌≡◌, refl, sym, ap, ap₂, ◌∙◌, subst}
-use mathlib.Core.Logic.{inl, inr}
-use mathlib.Core.Bool.{true}
-use mathlib.Core.List.{List, [], ◌∷◌, ◌++◌, map, append_assoc, append-nil}
-use Prim.Native.Nat.{ℕ, suc, ◌+◌, ◌≤◌, ◌<◌}
-use native.Mathlib.Omega.{arith}
-use lib.Dec.{eqb, ltb}
-use lib.ListN.{length, get_or, drop}
-use borrow.Author.Tests.{ne_eqb, le-leb, lt-ltb, eq-eqb}
+use Rattle.std.proofs.Common.{◌≡◌, refl, sym, ap, ap₂, ◌∙◌, subst, inl, inr, true, List, [], ◌∷◌, ◌++◌, map, append_assoc, append-nil, ℕ, suc, ◌+◌, ◌≤◌, ◌<◌, arith, eqb, ltb, length, get_or, drop, ne_eqb, le-leb, lt-ltb, eq-eqb}
 use Rattle.terms.specs.Graphs.{Among}
 use Rattle.terms.specs.Texts.{all_pass}
 use Rattle.terms.specs.Readings.{Reading, graph, is_size, is_first, is_shape, is_task, is_entry_dummy, is_exit_dummy, arrows_into, with_task, trailer}

@@ -1,11 +1,7 @@
 -- Refusal 17 need only be asked at 0 and where a subtask ends. Assumes nothing.
-use mathlib.Core.Path.{◌≡◌}
-use mathlib.Core.Logic.{◌⊎◌, inl, inr, by_cases}
-use mathlib.Core.List.{List}
-use Prim.Native.Nat.{ℕ, ◌≤◌, ◌<◌}
-use native.Mathlib.Omega.{arith}
-use native.Mathlib.Decide.{dec_le}
-use lib.ListN.{length}
+use Rattle.std.proofs.Common.{◌≡◌, ◌⊎◌, inl, inr, List, ℕ, ◌≤◌, ◌<◌, arith, length}
+use Rattle.std.proofs.Math.Logic.{by_cases}
+use Rattle.std.proofs.Math.Decide.{dec_le}
 use Rattle.terms.specs.Graphs.{IsSubtask}
 use Rattle.terms.specs.Plans.{end_of, Placed, IdleAt}
 use Rattle.terms.specs.declared.Entry.{Entry}

@@ -1,9 +1,5 @@
 -- Dummies of joins and nests: at a small input each statement rules the dummy's reply out. Assumes nothing.
-use mathlib.Core.Path.{◌≡◌, refl, ap, ◌∙◌}
-use mathlib.Core.List.{List, [], ◌∷◌}
-use Prim.Native.Nat.{ℕ, zero, suc, ◌≤◌}
-use native.Mathlib.Omega.{arith}
-use lib.ListN.{length, get_or}
+use Rattle.std.proofs.Common.{◌≡◌, refl, ap, ◌∙◌, List, [], ◌∷◌, ℕ, zero, suc, ◌≤◌, arith, length, get_or}
 use Rattle.terms.specs.Graphs.{IsSubtask, time_of}
 use Rattle.terms.specs.Arrangements.{has_arrow, passing, lasts_of, firsts_of, for_each, sorted_by_from}
 use Rattle.terms.specs.Joins.{Graph, graph_of, end_to_end, side_by_side, each_to_each, all_arrows, joined}

@@ -1,14 +1,9 @@
 -- The joined graph has the arrows of the first, those of the second and those that are added, and no others; they are sorted, and none stands
 -- twice. Assumes nothing.
-use mathlib.Core.Path.{◌≡◌, refl, sym, ap, ◌∙◌}
-use mathlib.Core.Logic.{◌⊎◌, ◌↔◌, inl, inr, ⊎_elim, by_cases}
-use mathlib.Core.Bool.{true}
-use mathlib.Core.List.{List, [], ◌∷◌, ◌++◌, map}
-use Prim.Native.Nat.{ℕ, ◌+◌, ◌-◌, ◌<◌}
-use native.Mathlib.Omega.{arith}
-use native.Mathlib.Decide.{dec_le}
-use lib.ListN.{length, get_or, length-append, get_or-append}
-use lib.Seq.{get_or-append-add}
+use Rattle.std.proofs.Common.{◌≡◌, refl, sym, ap, ◌∙◌, ◌⊎◌, ◌↔◌, inl, inr, ⊎_elim, true, List, [], ◌∷◌, ◌++◌, map, ℕ, ◌+◌, ◌-◌, ◌<◌, arith, length, get_or, length-append, get_or-append-add}
+use Rattle.std.proofs.Math.Logic.{by_cases}
+use Rattle.std.proofs.Math.Decide.{dec_le}
+use Rattle.std.proofs.Math.ListN.{get_or-append}
 use Rattle.terms.specs.Graphs.{Among, IsSubtask, time_of, from_of, to_of, Precedes}
 use Rattle.terms.specs.Refusals.{Repeats}
 use Rattle.terms.specs.Arrangements.{has_arrow, is_none, predecessors_of, successors_of, lasts_of, firsts_of}

@@ -1,10 +1,8 @@
 -- The table of a join accepts exactly where both graphs are accepted, the made one is within the limits and there is room; and what an accepted
 -- join makes is accepted. Assumes nothing.
-use mathlib.Core.Logic.{inl, inr, ⊎_elim, by_cases}
-use Prim.Native.Nat.{ℕ, ◌≤◌, ◌<◌}
-use native.Mathlib.Omega.{arith}
-use native.Mathlib.Decide.{dec_le}
-use lib.ListN.{length}
+use Rattle.std.proofs.Common.{inl, inr, ⊎_elim, ℕ, ◌≤◌, ◌<◌, arith, length}
+use Rattle.std.proofs.Math.Logic.{by_cases}
+use Rattle.std.proofs.Math.Decide.{dec_le}
 use Rattle.terms.specs.Rows.{Accepted}
 use Rattle.terms.specs.Refusals.{graph_rows, join_rows}
 use Rattle.terms.specs.Joins.{Graph, size, Way, joined, WithinLimits}

@@ -1,12 +1,9 @@
 -- The arrows of the joined graph, row by row: those out of the first's subtasks, where one without successors has those that are added; then the
 -- second's, sorted and moved up. And how many there are. Assumes nothing.
-use mathlib.Core.Path.{◌≡◌, refl, sym, ap, ap₂, ◌∙◌}
-use mathlib.Core.Bool.{Bool, true, false, cond, ◌&&◌, false≢true}
-use mathlib.Core.List.{List, [], ◌∷◌, ◌++◌, map, map-map, map-append, append-nil}
-use Prim.Native.Nat.{ℕ, zero, suc, ◌+◌, ◌*◌, ◌≤◌}
-use native.Mathlib.Nat.{add-mul, one-mul}
-use native.Mathlib.Omega.{arith}
-use lib.ListN.{length, length-append, length-map}
+use Rattle.std.proofs.Common.{◌≡◌, refl, sym, ap, ap₂, ◌∙◌, Bool, true, false, cond, ◌&&◌, List, [], ◌∷◌, ◌++◌, map, append-nil, ℕ, zero, suc, ◌+◌, ◌*◌, ◌≤◌, add-mul, one-mul, arith, length, length-append}
+use Rattle.std.proofs.lemmas.Bool.{false≢true}
+use mathlib.Core.List.{map-map}
+use Rattle.std.proofs.lemmas.List.{map-append, length-map}
 use Rattle.terms.specs.Graphs.{Among, Precedes}
 use Rattle.terms.specs.Arrangements.{has_arrow, passing, predecessors_of, successors_of, is_none, lasts_of, firsts_of, for_each, out_of, sorted_by_from}
 use Rattle.terms.specs.Joins.{Graph, size, Way, end_to_end, side_by_side, moved, entered, all_arrows, joined}

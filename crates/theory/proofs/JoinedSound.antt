@@ -1,10 +1,5 @@
 -- The joined graph is without fault, and accepted where it is within the limits; C adds. Assumes nothing.
-use mathlib.Core.Path.{◌≡◌, refl, ap, ◌∙◌}
-use mathlib.Core.Logic.{◌⊎◌, inl, inr}
-use mathlib.Core.List.{List, [], ◌∷◌, ◌++◌}
-use Prim.Native.Nat.{ℕ, suc, ◌+◌, ◌-◌, ◌≤◌, ◌<◌}
-use native.Mathlib.Omega.{arith}
-use lib.ListN.{length, get_or, length-append}
+use Rattle.std.proofs.Common.{◌≡◌, refl, ap, ◌∙◌, ◌⊎◌, inl, inr, List, [], ◌∷◌, ◌++◌, ℕ, suc, ◌+◌, ◌-◌, ◌≤◌, ◌<◌, arith, length, get_or, length-append}
 use Rattle.terms.specs.Sums.{sum}
 use Rattle.terms.specs.Graphs.{IsSubtask, time_of, LeadsTo, step, more}
 use Rattle.terms.specs.Paths.{total_work}

@@ -1,13 +1,6 @@
 -- Lines of numbers, written and read again: the fields of a line, its numbers, the lines of a text. Assumes nothing.
-use mathlib.Core.Path.{◌≡◌, refl, ap, ap₂, ◌∙◌}
-use mathlib.Core.Logic.{inl, inr, ⊎_elim}
-use mathlib.Core.Bool.{Bool, true, false, cond, not, ◌&&◌, ◌||◌, false≢true}
-use mathlib.Core.List.{List, [], ◌∷◌, ◌++◌, map}
-use Prim.Native.Nat.{ℕ, ◌≤◌, ◌<◌}
-use native.Mathlib.Omega.{arith}
-use lib.Dec.{eqb, leb}
-use lib.ListN.{length}
-use borrow.Author.Tests.{ne_eqb, leb-true}
+use Rattle.std.proofs.Common.{◌≡◌, refl, ap, ap₂, ◌∙◌, inl, inr, ⊎_elim, Bool, true, false, cond, not, ◌&&◌, ◌||◌, List, [], ◌∷◌, ◌++◌, map, ℕ, ◌≤◌, ◌<◌, arith, eqb, leb, length, ne_eqb, leb-true}
+use Rattle.std.proofs.lemmas.Bool.{false≢true}
 use Rattle.terms.specs.Texts.{all_pass, begins, onto, is_blank, is_digit, is_field, lines, fields, value, proper, numbers}
 use Rattle.terms.specs.Writings.{decimal, further, line, text_of}
 use Rattle.theory.proofs.Ascending.{Has}

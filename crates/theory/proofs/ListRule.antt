@@ -1,12 +1,8 @@
 -- What the list rule makes, with the clock at any t; and its plan is accepted. Assumes nothing.
-use mathlib.Core.Path.{◌≡◌, sym, ◌∙◌}
-use mathlib.Core.Logic.{◌≢◌, inl, inr, ⊎_elim, by_cases}
-use mathlib.Core.List.{List}
-use Prim.Native.Nat.{ℕ, suc, ◌+◌, ◌*◌, ◌≤◌, ◌<◌}
-use native.Mathlib.Nat.{zero-mul, one-mul}
-use native.Mathlib.Omega.{arith}
-use native.Mathlib.Decide.{dec_lt, ℕ_discrete}
-use lib.ListN.{length, replicate, length-replicate}
+use Rattle.std.proofs.Common.{◌≡◌, sym, ◌∙◌, ◌≢◌, inl, inr, ⊎_elim, List, ℕ, suc, ◌+◌, ◌*◌, ◌≤◌, ◌<◌, zero-mul, one-mul, arith, length, replicate}
+use Rattle.std.proofs.Math.Logic.{by_cases}
+use Rattle.std.proofs.Math.Decide.{dec_lt, ℕ_discrete}
+use Rattle.std.proofs.lemmas.List.{length-replicate}
 use Rattle.terms.specs.Graphs.{Among, IsSubtask, time_of, Precedes}
 use Rattle.terms.specs.Paths.{total_work}
 use Rattle.terms.specs.Plans.{not_placed, processor_of, start_of, end_of, Placed, RunsAt, IdleAt}

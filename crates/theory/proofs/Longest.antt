@@ -1,11 +1,7 @@
 -- A longest path exists, and the heaviest path to a subtask grows along every arrow. Assumes nothing.
-use mathlib.Core.Path.{◌≡◌, refl}
-use mathlib.Core.Logic.{◌⊎◌, inl, inr, by_cases}
-use mathlib.Core.List.{List}
-use Prim.Native.Nat.{ℕ, zero, suc, ◌+◌, ◌≤◌, ◌<◌, max}
-use native.Mathlib.Omega.{arith}
-use native.Mathlib.Decide.{dec_le, ℕ_discrete}
-use lib.ListN.{length}
+use Rattle.std.proofs.Common.{◌≡◌, refl, ◌⊎◌, inl, inr, List, ℕ, zero, suc, ◌+◌, ◌≤◌, ◌<◌, max, arith, length}
+use Rattle.std.proofs.Math.Logic.{by_cases}
+use Rattle.std.proofs.Math.Decide.{dec_le, ℕ_discrete}
 use Rattle.terms.specs.Graphs.{IsSubtask, time_of, from_of, to_of, Precedes}
 use Rattle.terms.specs.Paths.{PathTo, alone, along, weight, IsLongest}
 use Rattle.theory.specs.Sound.{SoundGraph}

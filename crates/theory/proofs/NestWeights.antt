@@ -1,8 +1,5 @@
 -- The C and P of a nest are those of its graphs joined as it says: the reply for the nest is the reply for the joined graph. Assumes nothing.
-use mathlib.Core.Path.{◌≡◌, sym, ap, ◌∙◌}
-use mathlib.Core.List.{List}
-use Prim.Native.Nat.{ℕ, ◌+◌, ◌≤◌}
-use native.Mathlib.Omega.{arith}
+use Rattle.std.proofs.Common.{◌≡◌, sym, ap, ◌∙◌, List, ℕ, ◌+◌, ◌≤◌, arith}
 use Rattle.terms.specs.Paths.{total_work, IsLongest}
 use Rattle.terms.specs.Refusals.{graph_rows}
 use Rattle.terms.specs.Replies.{IsMeasure, IsNestMeasure}

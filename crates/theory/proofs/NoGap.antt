@@ -1,11 +1,8 @@
 -- Where no processor is free while a subtask is ready, something runs as long as something is still to start. Assumes nothing.
 use mathlib.Core.Logic.Dec
-use mathlib.Core.Logic.{◌⊎◌, inl, inr, ⊎_elim, by_cases}
-use mathlib.Core.List.{List}
-use Prim.Native.Nat.{ℕ, ◌≤◌, ◌<◌}
-use native.Mathlib.Omega.{arith}
-use native.Mathlib.Decide.{dec_le, dec_lt}
-use lib.ListN.{length}
+use Rattle.std.proofs.Common.{◌⊎◌, inl, inr, ⊎_elim, List, ℕ, ◌≤◌, ◌<◌, arith, length}
+use Rattle.std.proofs.Math.Logic.{by_cases}
+use Rattle.std.proofs.Math.Decide.{dec_le, dec_lt}
 use Rattle.terms.specs.Graphs.{IsSubtask, Precedes}
 use Rattle.terms.specs.Plans.{processor_of, start_of, end_of, Placed, RunsAt, IdleAt}
 use Rattle.terms.specs.declared.Entry.{Entry}

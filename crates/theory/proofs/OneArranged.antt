@@ -1,12 +1,7 @@
 -- No second reply, and no second pair of lent rows, satisfies the statement over an arrangement. Assumes nothing.
-use mathlib.Core.Path.{◌≡◌, refl, sym, ap, ap₂, ◌∙◌}
-use mathlib.Core.Logic.{by_cases}
-use mathlib.Core.List.{List, ◌++◌}
-use Prim.Native.Nat.{ℕ, zero, suc, ◌+◌, ◌-◌, ◌≤◌, ◌<◌}
-use native.Mathlib.Omega.{arith}
-use native.Mathlib.Decide.{dec_le}
-use lib.ListN.{length, get_or, take, drop, take-append-drop}
-use lib.Seq.{ext_get_or, get_or-take, length-take-le}
+use Rattle.std.proofs.Common.{◌≡◌, refl, sym, ap, ap₂, ◌∙◌, List, ◌++◌, ℕ, zero, suc, ◌+◌, ◌-◌, ◌≤◌, ◌<◌, arith, length, get_or, take, drop, take-append-drop, ext_get_or, get_or-take, length-take-le}
+use Rattle.std.proofs.Math.Logic.{by_cases}
+use Rattle.std.proofs.Math.Decide.{dec_le}
 use Rattle.terms.specs.Graphs.{Among}
 use Rattle.terms.specs.Arrangements.{stretch, row_of, Begins, Arranged}
 use Rattle.terms.specs.Refusals.{arrange_rows}

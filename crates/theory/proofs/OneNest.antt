@@ -1,11 +1,7 @@
 -- A row is the writing of one nest only, so there is no second reply for a nest; its P is at most its C, which fits in 32 bits. Assumes nothing.
-use mathlib.Core.Path.{◌≡◌, refl, sym, ap, ap₂, ◌∙◌}
-use mathlib.Core.Logic.{inl, inr}
-use mathlib.Core.List.{List, [], ◌∷◌, ◌++◌, append_assoc, append-nil}
-use Prim.Native.Nat.{ℕ, suc, ◌*◌, ◌≤◌}
-use native.Mathlib.Nat.{suc_inj}
-use native.Mathlib.Omega.{arith}
-use lib.ListN.{length, length-append, length-map}
+use Rattle.std.proofs.Common.{◌≡◌, refl, sym, ap, ap₂, ◌∙◌, inl, inr, List, [], ◌∷◌, ◌++◌, append_assoc, append-nil, ℕ, suc, ◌*◌, ◌≤◌, arith, length, length-append}
+use Rattle.std.proofs.Math.Nat.{suc_inj}
+use Rattle.std.proofs.lemmas.List.{length-map}
 use Rattle.terms.specs.Rows.{RefusedBy}
 use Rattle.terms.specs.Joins.{Way, end_to_end, side_by_side}
 use Rattle.terms.specs.Nests.{other, Members, none, graph, opener, Nest, count, work_of, path_of, kind_of, graph_entry, opener_entry, written, Ruled}

@@ -1,9 +1,5 @@
 -- No second reply, and no second state of a lent row, satisfies the statement over a public function. Assumes nothing.
-use mathlib.Core.Path.{◌≡◌, refl, sym, ap, ap₂, ◌∙◌}
-use mathlib.Core.List.{List, ◌++◌}
-use Prim.Native.Nat.{ℕ}
-use native.Mathlib.Omega.{arith}
-use lib.ListN.{length, take, drop, take-append-drop}
+use Rattle.std.proofs.Common.{◌≡◌, refl, sym, ap, ap₂, ◌∙◌, List, ◌++◌, ℕ, arith, length, take, drop, take-append-drop}
 use lib.Ieee.{Float}
 use Rattle.terms.specs.Rows.{Row}
 use Rattle.terms.specs.Verdicts.{IsVerdict, AreFigures}

@@ -1,10 +1,6 @@
 -- Demand 3 asked of verdicts of any kind: ours passes, "always fits" and "the list plan ends by D" do not; and the worked alteration of G.
 -- Assumes nothing.
-use mathlib.Core.Path.{refl}
-use mathlib.Core.List.{List}
-use Prim.Native.Nat.{ℕ, ◌≤◌}
-use native.Mathlib.Omega.{arith}
-use lib.ListN.{take}
+use Rattle.std.proofs.Common.{refl, List, ℕ, ◌≤◌, arith, take}
 use Rattle.terms.specs.Replies.{IsAnswer, IsChecked}
 use Rattle.terms.specs.Alterations.{Altered, SaysFits}
 use Rattle.terms.specs.declared.Entry.{Entry}

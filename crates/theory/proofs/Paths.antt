@@ -1,12 +1,7 @@
 -- Paths of an accepted graph: none visits a subtask twice, so P ≤ C; and P is one number. Assumes nothing.
-use mathlib.Core.Path.{◌≡◌, refl}
-use mathlib.Core.Logic.{◌⊎◌, inl, inr, by_cases}
-use mathlib.Core.List.{List}
-use Prim.Native.Nat.{ℕ, suc, ◌+◌, ◌*◌, ◌≤◌}
-use native.Mathlib.Nat.{one-mul, add-mul, mul-le-mul_right}
-use native.Mathlib.Omega.{arith}
-use native.Mathlib.Decide.{dec_le, ℕ_discrete}
-use lib.ListN.{length}
+use Rattle.std.proofs.Common.{◌≡◌, refl, ◌⊎◌, inl, inr, List, ℕ, suc, ◌+◌, ◌*◌, ◌≤◌, one-mul, add-mul, mul-le-mul_right, arith, length}
+use Rattle.std.proofs.Math.Logic.{by_cases}
+use Rattle.std.proofs.Math.Decide.{dec_le, ℕ_discrete}
 use Rattle.terms.specs.Graphs.{IsSubtask, time_of, Precedes, LeadsTo, step, more}
 use Rattle.terms.specs.Paths.{total_work, PathTo, alone, along, weight, IsLongest}
 use Rattle.theory.specs.Sound.{SoundGraph}

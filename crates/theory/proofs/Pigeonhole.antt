@@ -1,9 +1,7 @@
 -- The pigeonhole: more places than values hold some value twice, and n places with n different values miss none. Assumes nothing.
-use mathlib.Core.Path.{◌≡◌, refl, sym, ◌∙◌}
-use mathlib.Core.Logic.{◌≢◌, inl, inr, ⊎_elim, by_cases}
-use Prim.Native.Nat.{ℕ, suc, ◌≤◌, ◌<◌}
-use native.Mathlib.Omega.{arith}
-use native.Mathlib.Decide.{dec_lt, ℕ_discrete}
+use Rattle.std.proofs.Common.{◌≡◌, refl, sym, ◌∙◌, ◌≢◌, inl, inr, ⊎_elim, ℕ, suc, ◌≤◌, ◌<◌, arith}
+use Rattle.std.proofs.Math.Logic.{by_cases}
+use Rattle.std.proofs.Math.Decide.{dec_lt, ℕ_discrete}
 use Rattle.terms.specs.Graphs.{Among}
 use Rattle.terms.specs.Sums.{sum}
 use Rattle.theory.specs.Counting.{bit}

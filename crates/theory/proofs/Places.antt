@@ -1,11 +1,7 @@
 -- Where a row of the table holds there is a place that goes with it; that there is no second one is `one_refusal`. Assumes nothing.
-use mathlib.Core.Path.{◌≡◌, refl}
+use Rattle.std.proofs.Common.{◌≡◌, refl, ◌⊎◌, inl, inr, List, [], ◌∷◌, ◌++◌, ℕ, suc, ◌<◌, arith}
 use mathlib.Core.Logic.Dec
-use mathlib.Core.Logic.{◌⊎◌, inl, inr}
-use mathlib.Core.List.{List, [], ◌∷◌, ◌++◌}
-use Prim.Native.Nat.{ℕ, suc, ◌<◌}
-use native.Mathlib.Omega.{arith}
-use native.Mathlib.Decide.{dec_lt, ℕ_discrete}
+use Rattle.std.proofs.Math.Decide.{dec_lt, ℕ_discrete}
 use Rattle.terms.specs.Rows.{Smallest, IsAt, Row, row}
 use Rattle.terms.specs.Graphs.{Among, time_of, from_of, to_of, LeadsTo}
 use Rattle.terms.specs.Plans.{processor_of, start_of, IdleAt}

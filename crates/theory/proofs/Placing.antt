@@ -1,11 +1,6 @@
 -- The entries of a plan after one subtask is placed, and before any is. Assumes nothing.
-use mathlib.Core.Path.{◌≡◌, ap}
-use mathlib.Core.Logic.{◌≢◌}
-use mathlib.Core.List.{List}
-use Prim.Native.Nat.{ℕ, ◌-◌, ◌≤◌}
-use native.Mathlib.Omega.{arith}
-use lib.ListN.{length, replicate, length-set, get_or-replicate}
-use lib.Seq.{get_or-set_same, get_or-set_other}
+use Rattle.std.proofs.Common.{◌≡◌, ap, ◌≢◌, List, ℕ, ◌-◌, ◌≤◌, arith, length, replicate, length-set, get_or-set_same, get_or-set_other}
+use Rattle.std.proofs.lemmas.List.{get_or-replicate}
 use Rattle.terms.specs.Graphs.{IsSubtask}
 use Rattle.terms.specs.Plans.{at, not_placed, processor_of, start_of}
 use Rattle.terms.specs.ListRule.{put}

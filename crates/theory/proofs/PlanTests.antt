@@ -1,10 +1,5 @@
 -- Acceptance of a plan by finitely many tests, which is what a plan check asks. Assumes nothing.
-use mathlib.Core.Path.{◌≡◌, refl}
-use mathlib.Core.Logic.{◌≢◌, ◌⊎◌, inl, inr}
-use mathlib.Core.List.{List}
-use Prim.Native.Nat.{ℕ, ◌≤◌, ◌<◌, max}
-use native.Mathlib.Omega.{arith}
-use lib.ListN.{length}
+use Rattle.std.proofs.Common.{◌≡◌, refl, ◌≢◌, ◌⊎◌, inl, inr, List, ℕ, ◌≤◌, ◌<◌, max, arith, length}
 use Rattle.terms.specs.Graphs.{Among, IsSubtask, time_of, from_of, to_of}
 use Rattle.terms.specs.Plans.{processor_of, start_of, end_of, Placed, RunsAt, ReadyAt, IdleAt}
 use Rattle.terms.specs.declared.Entry.{Entry}

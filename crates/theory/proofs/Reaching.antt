@@ -1,12 +1,8 @@
 -- Whether arrows lead from one number to another can be decided, through more and more numbers between. Assumes nothing.
-use mathlib.Core.Path.{◌≡◌}
+use Rattle.std.proofs.Common.{◌≡◌, ◌⊎◌, inl, inr, List, ℕ, zero, suc, ◌<◌, arith, length}
 use mathlib.Core.Logic.Dec
-use mathlib.Core.Logic.{◌⊎◌, inl, inr, by_cases}
-use mathlib.Core.List.{List}
-use Prim.Native.Nat.{ℕ, zero, suc, ◌<◌}
-use native.Mathlib.Omega.{arith}
-use native.Mathlib.Decide.{dec_lt}
-use lib.ListN.{length}
+use Rattle.std.proofs.Math.Logic.{by_cases}
+use Rattle.std.proofs.Math.Decide.{dec_lt}
 use Rattle.terms.specs.Graphs.{from_of, Precedes, LeadsTo, step, more}
 use Rattle.terms.specs.Sums.{sum}
 use Rattle.terms.proofs.Decide.{via}

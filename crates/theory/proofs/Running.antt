@@ -1,13 +1,9 @@
 -- How many subtasks run at an instant; where fewer than M run a processor is free, and the other way round. Assumes nothing.
-use mathlib.Core.Path.{◌≡◌, refl, sym, ◌∙◌}
+use Rattle.std.proofs.Common.{◌≡◌, refl, sym, ◌∙◌, ◌⊎◌, inl, inr, ⊎_elim, List, ℕ, suc, ◌+◌, ◌-◌, ◌≤◌, ◌<◌, arith, length}
 use mathlib.Core.Logic.Dec
-use mathlib.Core.Logic.{◌⊎◌, inl, inr, ⊎_elim, by_cases}
-use mathlib.Core.List.{List}
-use Prim.Native.Nat.{ℕ, suc, ◌+◌, ◌-◌, ◌≤◌, ◌<◌}
-use native.Mathlib.Nat.{suc_inj}
-use native.Mathlib.Omega.{arith}
-use native.Mathlib.Decide.{dec_le, ℕ_discrete}
-use lib.ListN.{length}
+use Rattle.std.proofs.Math.Logic.{by_cases}
+use Rattle.std.proofs.Math.Nat.{suc_inj}
+use Rattle.std.proofs.Math.Decide.{dec_le, ℕ_discrete}
 use Rattle.terms.specs.Graphs.{Among, IsSubtask, time_of, from_of, to_of, Precedes}
 use Rattle.terms.specs.Paths.{total_work}
 use Rattle.terms.specs.Plans.{processor_of, start_of, end_of, Placed, RunsAt, FreeAt}

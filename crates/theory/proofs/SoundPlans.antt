@@ -1,9 +1,5 @@
 -- What the acceptance of a plan hands out, fact by fact, as records that proofs read. Assumes nothing.
-use mathlib.Core.Path.{◌≡◌}
-use mathlib.Core.Logic.{◌≢◌}
-use mathlib.Core.List.{List}
-use Prim.Native.Nat.{ℕ, ◌≤◌}
-use lib.ListN.{length}
+use Rattle.std.proofs.Common.{◌≡◌, ◌≢◌, List, ℕ, ◌≤◌, length}
 use Rattle.terms.specs.Graphs.{Among, IsSubtask, Precedes}
 use Rattle.terms.specs.Plans.{processor_of, start_of, end_of, RunsAt, IdleAt}
 use Rattle.terms.specs.declared.Entry.{Entry}

@@ -1,10 +1,5 @@
 -- The next row, of each kind that has a place, gives the refusal: its place says that it holds. Assumes nothing.
-use mathlib.Core.Path.{◌≡◌, refl}
-use mathlib.Core.Logic.{◌≢◌}
-use mathlib.Core.List.{List, ◌∷◌}
-use Prim.Native.Nat.{ℕ, ◌-◌}
-use native.Mathlib.Omega.{arith}
-use lib.ListN.{length}
+use Rattle.std.proofs.Common.{◌≡◌, refl, ◌≢◌, List, ◌∷◌, ℕ, ◌-◌, arith, length}
 use Rattle.terms.specs.Graphs.{IsSubtask}
 use Rattle.terms.specs.Rows.{Smallest, IsAt, Row, RefusedBy}
 use Rattle.terms.specs.Refusals.{SomeSubtask, SomeArrow, SubtaskAt, ArrowAt, PairAt, first_subtask, first_arrow, smallest_pair, lowest}

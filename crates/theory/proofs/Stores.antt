@@ -1,11 +1,8 @@
 -- What is read from a table after a store, and from a row of noughts; stores one behind the other. Assumes nothing.
-use mathlib.Core.Path.{◌≡◌, refl, sym, ap, ◌∙◌, subst}
-use mathlib.Core.List.{List, [], ◌∷◌, ◌++◌}
-use Prim.Native.Nat.{ℕ, zero, suc, ◌+◌, ◌≤◌, ◌<◌}
-use native.Mathlib.Omega.{arith}
-use native.Mathlib.Decide.{ℕ_discrete}
-use lib.ListN.{length, get_or, set, take, replicate}
-use lib.Seq.{sets, set_comm, get_or-set_same, get_or-set_other}
+use Rattle.std.proofs.Common.{◌≡◌, refl, sym, ap, ◌∙◌, subst, List, [], ◌∷◌, ◌++◌, ℕ, zero, suc, ◌+◌, ◌≤◌, ◌<◌, arith, length, get_or, set, take, replicate, get_or-set_same, get_or-set_other}
+use Rattle.std.proofs.Math.Decide.{ℕ_discrete}
+use Rattle.std.proofs.lemmas.List.Edits.{sets}
+use Rattle.std.proofs.lemmas.List.{set_comm}
 
 -- by whether the place is the one stored at
 pub read_set : (P : ℕ → Type 0) (l : List ℕ) (i a x : ℕ) → i < length l → (x ≡ i → P a) → (¬ (x ≡ i) → P (get_or l x 0)) → P (get_or (set l i a) x 0)

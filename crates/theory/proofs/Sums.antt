@@ -1,10 +1,7 @@
 -- Finite sums over i < n, and yes and no as 1 and 0. Assumes nothing.
-use mathlib.Core.Path.{◌≡◌, refl, sym, ap}
-use mathlib.Core.Logic.{◌≢◌, by_cases}
-use Prim.Native.Nat.{ℕ, zero, suc, ◌+◌, ◌*◌, ◌≤◌, ◌<◌}
-use native.Mathlib.Nat.{add-zero, add-suc, le_refl, zero-mul, mul-zero}
-use native.Mathlib.Omega.{arith}
-use native.Mathlib.Decide.{dec_le, ℕ_discrete, le_ind}
+use Rattle.std.proofs.Common.{◌≡◌, refl, sym, ap, ◌≢◌, ℕ, zero, suc, ◌+◌, ◌*◌, ◌≤◌, ◌<◌, add-zero, add-suc, le_refl, zero-mul, mul-zero, arith}
+use Rattle.std.proofs.Math.Logic.{by_cases}
+use Rattle.std.proofs.Math.Decide.{dec_le, ℕ_discrete, le_ind}
 use Rattle.terms.specs.Sums.{sum}
 use Rattle.terms.specs.Graphs.{Among}
 use Rattle.theory.specs.Counting.{bit}

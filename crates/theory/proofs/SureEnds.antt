@@ -1,10 +1,5 @@
 -- The sure end is reached by an accepted plan; and the verdict by it beside the comparison of M × D with S. Assumes nothing.
-use mathlib.Core.Path.{◌≡◌, refl}
-use mathlib.Core.Logic.{◌↔◌}
-use mathlib.Core.List.{List, []}
-use Prim.Native.Nat.{ℕ, ◌*◌, ◌≤◌, ◌<◌}
-use native.Mathlib.Omega.{arith}
-use lib.ListN.{take}
+use Rattle.std.proofs.Common.{◌≡◌, refl, ◌↔◌, List, [], ℕ, ◌*◌, ◌≤◌, ◌<◌, arith, take}
 use Rattle.terms.specs.Rows.{Accepted}
 use Rattle.terms.specs.Paths.{total_work, IsLongest}
 use Rattle.terms.specs.Verdicts.{bound, sure_end, IsVerdict}

@@ -1,11 +1,6 @@
 -- How many of the subtasks 1..n have a mark of a kind: a kind gives 1 for the marks of that kind, 0 for the others. Assumes nothing.
-use mathlib.Core.Path.{◌≡◌, refl, ap, sym, ◌∙◌}
-use mathlib.Core.List.{List}
-use Prim.Native.Nat.{ℕ, zero, suc, ◌+◌, ◌<◌}
-use native.Mathlib.Omega.{arith}
-use native.Mathlib.Decide.{ℕ_discrete}
-use lib.ListN.{length, get_or, set}
-use lib.Seq.{get_or-set_same, get_or-set_other}
+use Rattle.std.proofs.Common.{◌≡◌, refl, ap, sym, ◌∙◌, List, ℕ, zero, suc, ◌+◌, ◌<◌, arith, length, get_or, set, get_or-set_same, get_or-set_other}
+use Rattle.std.proofs.Math.Decide.{ℕ_discrete}
 use Rattle.terms.specs.Graphs.{Among}
 
 pub tally : (ℕ → ℕ) → List ℕ → ℕ → ℕ

@@ -1,12 +1,6 @@
 -- The text of an accepted graph of 16-bit times, read again: the same times, and the arrows sorted by "to" and then "from". Two such graphs have the
 -- same text exactly when their times and their arrows are the same. Assumes nothing.
-use mathlib.Core.Path.{◌≡◌, refl, sym, ap, ap₂, ◌∙◌}
-use mathlib.Core.Bool.{Bool}
-use mathlib.Core.List.{List, [], ◌∷◌, ◌++◌}
-use Prim.Native.Nat.{ℕ, ◌+◌, ◌≤◌}
-use native.Mathlib.Omega.{arith}
-use lib.ListN.{length}
-use borrow.Author.Tests.{le-leb}
+use Rattle.std.proofs.Common.{◌≡◌, refl, sym, ap, ap₂, ◌∙◌, Bool, List, [], ◌∷◌, ◌++◌, ℕ, ◌+◌, ◌≤◌, arith, length, le-leb}
 use Rattle.terms.specs.Rows.{Accepted}
 use Rattle.terms.specs.Graphs.{In16Bits}
 use Rattle.terms.specs.Refusals.{graph_rows, time_and_arrow_rows}

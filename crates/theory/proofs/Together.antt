@@ -1,7 +1,5 @@
 -- P of members, one after the other, along either way. Assumes nothing.
-use mathlib.Core.Path.{◌≡◌}
-use Prim.Native.Nat.{ℕ, ◌+◌, ◌≤◌}
-use native.Mathlib.Omega.{arith}
+use Rattle.std.proofs.Common.{◌≡◌, ℕ, ◌+◌, ◌≤◌, arith}
 use Rattle.terms.specs.Joins.{Way, end_to_end, side_by_side}
 use Rattle.terms.specs.Nests.{together}
 

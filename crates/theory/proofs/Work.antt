@@ -1,9 +1,5 @@
 -- C: as a sum over the subtasks, and at most 16,776,960. Assumes nothing.
-use mathlib.Core.Path.{◌≡◌, refl}
-use mathlib.Core.List.{List}
-use Prim.Native.Nat.{ℕ, suc, ◌≤◌}
-use native.Mathlib.Omega.{arith}
-use lib.ListN.{length}
+use Rattle.std.proofs.Common.{◌≡◌, refl, List, ℕ, suc, ◌≤◌, arith, length}
 use Rattle.terms.specs.Sums.{sum}
 use Rattle.terms.specs.Graphs.{time_of, In16Bits}
 use Rattle.terms.specs.Paths.{total_work}

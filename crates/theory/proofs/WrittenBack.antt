@@ -1,11 +1,7 @@
 -- What the writer wrote, over its public statement: the text of an accepted graph, at most 12,422 bytes, which the reader accepts with the same times
 -- and the same arrows; two texts are the same exactly when the times and the arrows are. Assumes nothing.
-use mathlib.Core.Path.{◌≡◌, sym, ap₂, ◌∙◌}
-use mathlib.Core.List.{List}
-use Prim.Native.Nat.{ℕ, ◌≤◌}
-use native.Mathlib.Omega.{arith}
-use lib.ListN.{length, take, drop}
-use lib.Seq.{take-append_seam}
+use Rattle.std.proofs.Common.{◌≡◌, sym, ap₂, ◌∙◌, List, ℕ, ◌≤◌, arith, length, take, drop}
+use Rattle.std.proofs.Math.Seq.{take-append_seam}
 use Rattle.terms.specs.Rows.{Accepted}
 use Rattle.terms.specs.Graphs.{In16Bits, from_of, to_of}
 use Rattle.terms.specs.Refusals.{graph_rows, write_rows}

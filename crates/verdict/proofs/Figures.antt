@@ -1,9 +1,5 @@
 -- From C and P as measured to the answer: how large the numbers are, and the answer with a verdict or with a refusal. Assumes nothing.
-use mathlib.Core.Path.{◌≡◌, refl}
-use mathlib.Core.List.{List}
-use Prim.Native.Nat.{ℕ, ◌+◌, ◌-◌, ◌*◌, ◌≤◌}
-use native.Mathlib.Omega.{arith}
-use native.Mathlib.Nat.{mul-le-mul, mul-pos}
+use Rattle.std.proofs.Common.{◌≡◌, refl, List, ℕ, ◌+◌, ◌-◌, ◌*◌, ◌≤◌, arith, mul-le-mul, mul-pos}
 use Rattle.terms.specs.Rows.{RefusedBy}
 use Rattle.terms.specs.Graphs.{Among, IsSubtask, In16Bits}
 use Rattle.terms.specs.Refusals.{verdict_rows}

@@ -1,12 +1,6 @@
 -- The load is the quotient of the two whole numbers, rounded once: neither cast changes its number. Assumes nothing.
-use Prim.Native.Nat.{ℕ, ◌*◌, ◌^◌, ◌<◌}
-use mathlib.Core.Path.{◌≡◌, sym, ap, ◌∙◌, subst}
-use mathlib.Core.Bool.{true, false}
-use native.Mathlib.Omega.{arith}
-use native.Mathlib.Nat.{mul_assoc, mul_comm, mul-pos, mul-one, le_of_lt}
-use borrow.Author.Tests.{ne_eqb}
+use Rattle.std.proofs.Common.{ℕ, ◌*◌, ◌^◌, ◌<◌, ◌≡◌, sym, ap, ◌∙◌, subst, true, false, arith, mul_assoc, mul_comm, mul-pos, mul-one, le_of_lt, ne_eqb, T, ltb→lt}
 use lib.IntN.{pos}
-use lib.Dec.{T, ltb→lt}
 use lib.Ieee.{Float, nan, inf, fin, Format, binary32, round, div, of_int}
 use lib.Ieee.Exact.{HasValue}
 use lib.Ieee.Back.{round_whole}

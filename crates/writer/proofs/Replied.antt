@@ -1,7 +1,7 @@
 -- From the bytes put to the writer's reply: over the rows of an accepted graph they are the graph's text. Assumes nothing.
 use Rattle.std.proofs.Common.{◌≡◌, refl, ap, ap₂, ◌∙◌, List, [], ◌∷◌, ◌++◌, ℕ, ◌+◌, ◌-◌, ◌≤◌, ◌<◌, arith, length, take, drop, replicate, length-take, Result}
 use Rattle.std.proofs.Common.{Ok, Err}
-use lib.ListN.{length-replicate}
+use Rattle.std.proofs.lemmas.List.{length-replicate}
 use Rattle.terms.specs.Rows.{Accepted, RefusedBy, row}
 use Rattle.terms.specs.Arrangements.{predecessors_of, sources_of, lasts_of, row_of}
 use Rattle.terms.specs.Writings.{text_of, with_count, subtask_lines, exit_numbers, stg_lines, stg_text}

@@ -1,6 +1,5 @@
 -- `zul_write_stg`: the writer's reply, made flat; the length fits 32 bits. Assumes nothing.
-use Prim.Native.Nat.{◌-◌}
-use native.Mathlib.Omega.{arith}
+use Rattle.std.proofs.Common.{◌-◌, arith}
 use Rattle.terms.specs.Graphs.{time_of, In16Bits}
 use Rattle.api.proofs.Sizes.{is_short}
 use Rattle.api.proofs.zul_write_stg.Goals as goal

@@ -1,8 +1,7 @@
 -- `check_subtasks`: 1 exactly outside 1..256 subtasks, then 2 exactly where a time is 0. Assumes nothing.
-use Rattle.std.proofs.Common.{arith, ◌≡◌, refl, sym, ◌∙◌, List, ℕ, ◌+◌, ◌-◌, length, get_or, nat_eq, nat_lt, Bool, true, false, cond, not, Some, None, is_some, ap}
+use Rattle.std.proofs.Common.{arith, ◌≡◌, refl, sym, ◌∙◌, List, ℕ, ◌+◌, ◌-◌, length, get_or, nat_eq, nat_lt, Bool, true, false, cond, not, Some, None, is_some, ap, true≢false}
 use Rattle.std.specs.List.{position, position_or_len}
-use mathlib.Core.Bool.{true≢false, false≢true}
-use Rattle.std.proofs.lemmas.Bool.{eqb-true, eqb-false, ltb-false}
+use Rattle.std.proofs.lemmas.Bool.{false≢true, eqb-true, eqb-false, ltb-false}
 use Rattle.std.proofs.lemmas.List.Sums.{prefix_len_passes}
 use Rattle.std.proofs.lemmas.List.Quantifiers.{position-Some}
 use Rattle.terms.specs.Rows.{Accepted, RefusedBy}

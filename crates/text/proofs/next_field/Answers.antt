@@ -1,6 +1,6 @@
 -- `next_field`: the digits at a place are that piece of the lent text. Assumes nothing.
 use Rattle.std.proofs.Common.{◌≡◌, refl, ℕ, ◌+◌, ◌-◌, List, length, take, drop, arith}
-use native.Mathlib.Nat.{add-sub_cancel_left}
+use Rattle.std.proofs.Math.Nat.{add-sub_cancel_left}
 use Rattle.terms.specs.Texts.{digits}
 use Rattle.text.proofs.Places.{digits_within, digits_part}
 use Rattle.text.proofs.next_field.Goals as goal

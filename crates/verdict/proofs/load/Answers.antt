@@ -1,7 +1,5 @@
 -- `load`: the load is the exact quotient, rounded once. Assumes nothing.
-use Prim.Native.Nat.{◌^◌}
-use native.Mathlib.Omega.{arith}
-use lib.Dec.{le→leb}
+use Rattle.std.proofs.Common.{◌^◌, arith, le→leb}
 use lib.Ieee.{in_float}
 use Rattle.verdict.proofs.Quotient.{rounded_once}
 use Rattle.verdict.proofs.load.Goals as goal

@@ -1,5 +1,5 @@
 -- `refused`: the answer with a refusal has no figures. Assumes nothing.
-use mathlib.Core.Path.{refl}
+use Rattle.std.proofs.Common.{refl}
 use lib.Ieee.{of_bits}
 use Rattle.verdict.proofs.refused.Goals as goal
 

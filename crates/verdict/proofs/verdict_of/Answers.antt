@@ -1,6 +1,5 @@
 -- `verdict_of`: the figures of C and P, and fits or late. Assumes nothing.
-use mathlib.Core.Path.{refl}
-use native.Mathlib.Omega.{arith}
+use Rattle.std.proofs.Common.{refl, arith}
 use Rattle.terms.specs.Verdicts.{bound, sure_end, load_of, IsVerdict}
 use Rattle.verdict.proofs.Figures.{s_small, room_is}
 use Rattle.verdict.proofs.verdict_of.Goals as goal

@@ -1,6 +1,6 @@
 -- `leads_back`: the search meets the root, or has met all that lead to it. Assumes nothing.
 use Rattle.std.proofs.Common.{ℕ, arith}
-use lib.ListN.{length-replicate}
+use Rattle.std.proofs.lemmas.List.{length-replicate}
 use Rattle.graph.proofs.Chained.{Looks, looks}
 use Rattle.graph.proofs.CycleSearch.{turn, search_start, search_end, search_back, search_skip, queue_room, search_meet, next_small, search_next}
 use Rattle.graph.proofs.cycle.leads_back.Goals.{After-source-from, then-not-met-p, else-not-met-p}

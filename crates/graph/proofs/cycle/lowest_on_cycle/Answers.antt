@@ -1,6 +1,5 @@
 -- `lowest_on_cycle`: the first subtask that the arrows lead back to. Assumes nothing.
-use Rattle.std.proofs.Common.{arith}
-use borrow.Author.Count.{below_more}
+use Rattle.std.proofs.Common.{arith, below_more}
 use Rattle.terms.specs.Graphs.{LeadsTo}
 use Rattle.theory.specs.First.{IsFirstSubtask}
 use Rattle.theory.proofs.Firsts.{said, unsaid}

@@ -1,6 +1,6 @@
 -- `order_subtasks`: the walk leaves the order, or ends at a cycle. Assumes nothing.
 use Rattle.std.proofs.Common.{◌≡◌, refl, ◌+◌, ◌-◌, ℕ, arith}
-use lib.ListN.{length-replicate}
+use Rattle.std.proofs.lemmas.List.{length-replicate}
 use Rattle.std.specs.Prelude.{◌≢◌}
 use Rattle.theory.proofs.Rounds.{both}
 use Rattle.graph.proofs.Chained.{Looks, looks}

@@ -1,7 +1,6 @@
 -- `first_loop`: the scan answers the first arrow that goes from a subtask to itself. Assumes nothing.
-use Rattle.std.proofs.Common.{rules, List, ℕ, [], get_or, ◌≡◌}
+use Rattle.std.proofs.Common.{rules, List, ℕ, [], get_or, ◌≡◌, tests}
 use Rattle.std.proofs.lemmas.Iterator.{IsFirst-from_position, YieldsList-from_slice}
-use borrow.Author.Tests.{tests}
 use Rattle.terms.specs.Graphs.{from_of, to_of}
 use Rattle.graph.proofs.FirstArrows.{first_position}
 use Rattle.graph.proofs.scan.first_loop.Goals as goal

@@ -1,6 +1,6 @@
 -- `put_rows`: the arrows out of n subtasks, row by row. Assumes nothing.
-use Rattle.std.proofs.Common.{rules, ◌≡◌, sym, ◌+◌, ◌-◌, ◌≤◌, length, take, drop, arith}
-use borrow.Author.Tests.{eqb-true, eqb-false}
+use Rattle.std.proofs.Common.{rules, ◌≡◌, sym, ◌+◌, ◌-◌, ◌≤◌, length, take, drop, arith, eqb-true}
+use Rattle.std.proofs.lemmas.Bool.{eqb-false}
 use Rattle.terms.specs.Arrangements.{row_of}
 use Rattle.joins.specs.Puts.{Puts, rows_arrows}
 use Rattle.joins.proofs.RowByRow.{rows_none, NextRow, targets_room, targets_put, row_room, row_put}

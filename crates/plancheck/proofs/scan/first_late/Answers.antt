@@ -1,7 +1,6 @@
 -- `first_late`: the first subtask that starts above 16,776,960. Assumes nothing.
-use Rattle.std.proofs.Common.{rules, [], ◌+◌, ◌<◌, ◌≤◌, length, arith}
+use Rattle.std.proofs.Common.{rules, [], ◌+◌, ◌<◌, ◌≤◌, length, arith, tests}
 use Rattle.std.proofs.lemmas.Iterator.{IsFirst-from_position, YieldsList-from_slice}
-use borrow.Author.Tests.{tests}
 use Rattle.terms.specs.Plans.{not_placed, start_of}
 use Rattle.terms.specs.declared.Entry.{Entry}
 use Rattle.theory.specs.First.{IsFirst}

@@ -1,7 +1,6 @@
 -- `first_misplaced`: the first subtask with a processor outside 1..m. Assumes nothing.
-use Rattle.std.proofs.Common.{rules, [], ◌+◌, length}
+use Rattle.std.proofs.Common.{rules, [], ◌+◌, length, tests}
 use Rattle.std.proofs.lemmas.Iterator.{IsFirst-from_position, YieldsList-from_slice}
-use borrow.Author.Tests.{tests}
 use Rattle.terms.specs.Graphs.{Among}
 use Rattle.terms.specs.Plans.{not_placed, processor_of}
 use Rattle.terms.specs.declared.Entry.{Entry}

@@ -1,6 +1,5 @@
 -- `clash`: the flag says whether j, after i, clashes with i. Assumes nothing.
-use Rattle.std.proofs.Common.{sym, ◌∙◌, arith}
-use borrow.Author.Tests.{ltb-true, ltb-false, lt-ltb, eqb-true}
+use Rattle.std.proofs.Common.{sym, ◌∙◌, arith, ltb-true, ltb-false, lt-ltb, eqb-true}
 use Rattle.plancheck.specs.Scans.{Clash}
 use Rattle.plancheck.proofs.FirstSubtasks.{says, says_no}
 use Rattle.plancheck.proofs.placed.Placed.clash.Goals as goal
