@@ -1,7 +1,10 @@
 -- The scans over the processors and over the places of the order, turn by turn. Assumes nothing.
-use Rattle.std.proofs.Common.{◌≡◌, ◌≢◌, refl, List, Bool, true, false, None, Some, ℕ, ◌+◌, ◌*◌, ◌/◌, ◌≤◌, ◌<◌, min, length, get_or, set, arith, below_more}
+use Rattle.std.proofs.Common.{◌≡◌, ◌≢◌, refl, ap, ◌∙◌, List, Bool, true, false, None, Some, ℕ, ◌+◌, ◌-◌, ◌*◌, ◌/◌, ◌≤◌, ◌<◌, min, length, get_or, set, take, drop, length-set, length-take, length-drop, arith, below_more}
 use Rattle.std.proofs.Math.Decide.{dec_le, ℕ_discrete}
 use Rattle.std.proofs.Math.Logic.{by_cases}
+use Rattle.std.specs.List.{list_any}
+use Rattle.std.proofs.lemmas.List.{get_or-take, get_or-drop}
+use Rattle.std.proofs.lemmas.List.Folds.{list_any_at}
 use Rattle.terms.specs.Graphs.{Among}
 use Rattle.theory.specs.First.{NoneBelow, FirstBelow}
 use Rattle.listplan.specs.Tables.{Grouped}
@@ -101,3 +104,51 @@ unmarked_low R {n} {x} l b h = record {
   within = omega arith;
   none = λ y m. read_bit (λ k. k ≢ true) R x false y l (λ _. none_true refl) (λ d. h.none y (omega arith));
 }
+
+-- ---- the groups
+
+module _ {R G : List Bool} {x : ℕ} (l : x < 256) (e : length R ≡ 256) (g : Grouped R G) where
+  room : x < length R
+  room = omega arith
+
+  pub grouped_marked : Grouped (set R x true) (set G (x / 16) true)
+  grouped_marked = record {
+    long = length-set G (x / 16) true ∙ g.long;
+    none = λ y b. read_bit (λ k. k ≡ false → get_or (set R x true) y false ≢ true) G (x / 16) true (y / 16) (omega (arith, g.long))
+        (λ _ z. absurd (none_true z refl))
+        (λ d z. read_bit (λ k. k ≢ true) R x true y room (λ q. absurd (d (ap (λ (k : ℕ). k / 16) q))) (λ _. g.none y b z));
+  }
+
+  -- no mark is new
+  fewer : (z : ℕ) → get_or R z false ≢ true → get_or (set R x false) z false ≢ true
+  fewer z h = read_bit (λ k. k ≢ true) R x false z room (λ _. none_true refl) (λ _. h)
+
+  -- the group may have another
+  pub grouped_still : Grouped (set R x false) G
+  grouped_still = record { long = g.long; none = λ z m q. fewer z (g.none z m q) }
+
+  -- it has none
+  pub grouped_last : NoneBelow (IsMarked R) 256 x → ((z : ℕ) → x < z → z < x / 16 * 16 + 16 → get_or (set R x false) z false ≢ true)
+      → Grouped (set R x false) (set G (x / 16) false)
+  grouped_last before after = record {
+    long = length-set G (x / 16) false ∙ g.long;
+    none = λ z b. read_bit (λ k. k ≡ false → get_or (set R x false) z false ≢ true) G (x / 16) false (z / 16) (omega (arith, g.long))
+        (λ q _. inside z q) (λ q f. fewer z (g.none z b f));
+  }
+    where
+      inside : (z : ℕ) → z / 16 ≡ x / 16 → get_or (set R x false) z false ≢ true
+      inside z q = by_cases (dec_le (x + 1) z)
+          (λ a. after z (omega arith) (omega arith))
+          (λ a. read_bit (λ k. k ≢ true) R x false z room (λ _. none_true refl) (λ d. before.none z (omega arith)))
+
+-- a piece of the row in which none is marked
+pub no_mark : (p : Bool → Bool) → p true ≡ true → (R : List Bool) (a n : ℕ) → a + n ≤ length R → list_any p (take n (drop a R)) ≡ false
+    → (z : ℕ) → a ≤ z → z < a + n → get_or R z false ≢ true
+no_mark p sees R a n l none z low high marked =
+    let i : ℕ = z - a in
+    let at : a + i ≡ z = omega arith in
+    let inside : i < n = omega arith in
+    let long : i < length (take n (drop a R)) = simp (length-take, length-drop) (omega arith) in
+    let here : get_or (take n (drop a R)) i false ≡ true =
+    get_or-take n (drop a R) i false inside ∙ get_or-drop a R i false ∙ ap (λ (y : ℕ). get_or R y false) at ∙ marked in
+    none_true none (list_any_at p (take n (drop a R)) i false long (ap p here ∙ sees))

@@ -65,11 +65,9 @@ impl Marks {
         ensures { self.new ≡ set self.old x false }
     {
         self.places[x] = false;
-        for y in x + 1..x / 16 * 16 + 16 {
-            if self.places[y] {
-                return;
-            }
+        let end = x / 16 * 16 + 16;
+        if !self.places[x + 1..end].contains(&true) {
+            self.groups[x / 16] = false;
         }
-        self.groups[x / 16] = false;
     }
 }
