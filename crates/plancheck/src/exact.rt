@@ -8,6 +8,7 @@ ghost use Rattle.plancheck.specs.Scans.{Clash, FirstClash, running_among, Idles,
 use crate::Pair;
 use crate::placed::Placed;
 use crate::read::{end_of, entry_of};
+use inputs::time_in;
 use terms::Subtask;
 
 impl Placed<'_> {
@@ -56,7 +57,7 @@ impl Placed<'_> {
     {
         let mut count: u32 = 0;
         for (place, entry) in self.plan.iter().enumerate() {
-            let time = u32::from(self.times[place]);
+            let time = time_in(self.times[place]);
             let runs = (entry.start <= t) & (t.saturating_sub(entry.start) < time);
             count += u32::from(runs);
         }

@@ -18,7 +18,7 @@ pub loop-place-preserved : goal.loop-place-preserved
 loop-place-preserved c =
     let k = c.loop-place.place in
     let this : c.from-count.result ≡ one c.args.t (get_or c.args.self.now.times.now k 0) (get_or c.args.self.now.plan.now k not_placed) =
-    (rw (c.saturating_sub.ensures, c.from-time.ensures) at c.from-count.ensures) ∙ as_cond _ in
+    (rw (c.saturating_sub.ensures, c.time_in-time.ensures.0) at c.from-count.ensures) ∙ as_cond _ in
     let small = one_small c.args.t (get_or c.args.self.now.times.now k 0) (get_or c.args.self.now.plan.now k not_placed) in
     (omega (arith, c.loop-place.invariant.0, this, small), one_more c.args.t c.args.self.now.times.now c.args.self.now.plan.now k c.loop-place.invariant.1 this)
 
