@@ -4,7 +4,7 @@
 
 ghost use Rattle.std.specs.Prelude.{◌≡◌, ℕ, ◌+◌, ◌<◌, max, length, get_or};
 ghost use Rattle.terms.specs.Graphs.{from_of, to_of};
-ghost use Rattle.inputs.specs.Lent.{IsTimeOf, IsArrowAt};
+ghost use Rattle.inputs.specs.Lent.{IsTimeOf, IsArrowOf, IsArrowAt};
 
 use terms::{Arrow, Subtask};
 
@@ -41,6 +41,24 @@ pub fn larger(a: u32, b: u32) -> u32
     a.max(b)
 }
 
+// The time that an entry of a row of times holds.
+pub fn time_in(held: u16) -> u32
+    ensures { (result ≡ held) × (result < 65536) }
+{
+    u32::from(held)
+}
+
+// The arrow of the two ends that an entry of a row of arrows holds.
+pub fn arrow_of(ends: &[u16; 2]) -> Arrow
+    ensures { IsArrowOf ends.now result }
+{
+    let [from, to] = *ends;
+    Arrow {
+        from: Subtask(usize::from(from)),
+        to: Subtask(usize::from(to)),
+    }
+}
+
 // The time of a subtask, and 0 for a number that is none: docs/STATEMENTS.md promises a number, as of the four below, so no `Option`.
 pub fn time_of(times: &[u16], subtask: Subtask) -> u32
     ensures { IsTimeOf times.now subtask.0 result }
@@ -49,7 +67,7 @@ pub fn time_of(times: &[u16], subtask: Subtask) -> u32
     if j < 1 || times.len() < j {
         return 0;
     }
-    u32::from(times[j - 1])
+    time_in(times[j - 1])
 }
 
 // The arrow at a place of the row.
@@ -62,11 +80,7 @@ pub fn arrow_at(arrows: &[[u16; 2]], place: usize) -> Arrow
             to: Subtask(0),
         };
     }
-    let [from, to] = arrows[place];
-    Arrow {
-        from: Subtask(usize::from(from)),
-        to: Subtask(usize::from(to)),
-    }
+    arrow_of(&arrows[place])
 }
 
 // Where it comes from.

@@ -8,6 +8,7 @@ ghost use Rattle.plancheck.specs.Scans.{Clash, FirstClash, running_among, Idles,
 use crate::Pair;
 use crate::placed::Placed;
 use crate::read::{end_of, entry_of};
+use inputs::time_in;
 use terms::Subtask;
 
 impl Placed<'_> {
@@ -57,8 +58,8 @@ impl Placed<'_> {
     {
         let mut count: u32 = 0;
         for (place, entry) in self.plan.iter().enumerate() {
-            let time = self.times[place];
-            count += u32::from(t.wrapping_sub(entry.start) < u32::from(time));
+            let time = time_in(self.times[place]);
+            count += u32::from(t.wrapping_sub(entry.start) < time);
         }
         count
     }

@@ -1,5 +1,4 @@
 // A plan of which none of 1 to 8 and 12 to 15 holds.
-ghost use Rattle.terms.specs.Graphs.{In16Bits};
 ghost use Rattle.plancheck.specs.Sweeps.{Sweepable};
 
 use terms::Entry;
@@ -13,5 +12,4 @@ pub struct Placed<'a> {
     pub ready: &'a [u32; 257],
     pub m: u32,
     ghost sound: { Sweepable times.now m plan.now ready.now },
-    ghost short: { In16Bits times.now },
 }

@@ -1,6 +1,5 @@
 -- `check_placing`: the first row of 13 to 17 that holds of a plan. Assumes nothing.
-use Rattle.std.proofs.Common.{◌-◌, arith}
-use Rattle.terms.specs.Graphs.{time_of}
+use Rattle.std.proofs.Common.{arith}
 use Rattle.terms.specs.Replies.{IsCheck}
 use Rattle.terms.proofs.Decisions.{told}
 use Rattle.theory.specs.First.{IsFirstSubtask}
@@ -42,11 +41,7 @@ returns-in-Some-first_early c =
     c.latest_ends-ready.ensures (rw c.in-Some-first_early.is at c.first_early.ensures) told
 
 pub invariant_of-placed : goal.invariant_of-placed
-unfolding time_of
-invariant_of-placed c = record {
-  sound = sweepable (known (goal.at.invariant_of-placed c).In_default-first_early);
-  short = λ j s. omega (arith, c.type_inv.times (j - 1));
-}
+invariant_of-placed c = record { sound = sweepable (known (goal.at.invariant_of-placed c).In_default-first_early) }
 
 pub returns-then-passes_sweep : goal.returns-then-passes_sweep
 unfolding IsCheck
