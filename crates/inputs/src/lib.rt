@@ -59,6 +59,13 @@ pub fn arrow_of(ends: &[u16; 2]) -> Arrow
     }
 }
 
+// The subtask that an entry of an order names.
+pub fn subtask_in(held: u16) -> Subtask
+    ensures { (result.0 ≡ held) × (result.0 < 65536) }
+{
+    Subtask(usize::from(held))
+}
+
 // The time of a subtask, and 0 for a number that is none: docs/STATEMENTS.md promises a number, as of the four below, so no `Option`.
 pub fn time_of(times: &[u16], subtask: Subtask) -> u32
     ensures { IsTimeOf times.now subtask.0 result }
@@ -102,7 +109,7 @@ pub fn subtask_at(order: &[u16], place: usize) -> Subtask
     ensures { (result.0 ≡ get_or order.now place 0) × (result.0 < 65536) }
 {
     match order.get(place) {
-        Some(number) => Subtask(usize::from(*number)),
+        Some(held) => subtask_in(*held),
         None => Subtask(0),
     }
 }

@@ -5,7 +5,7 @@ ghost use Rattle.graph.specs.Chains.{Chains};
 ghost use Rattle.listplan.specs.Tables.{Roomy, ArrowsTo, Distinct, Ranks, Sources};
 
 use crate::marks::Marks;
-use inputs::arrow_of;
+use inputs::{arrow_of, subtask_in};
 use terms::Arrow;
 
 // For each subtask the chain of the arrows from it, the latest first: `first` holds the position of that one, `next` of the one before
@@ -38,7 +38,7 @@ pub fn rank_subtasks(order: &[u16], left: &[u16; 257], rank: &mut [u16; 257], ma
     ensures sources { Sources order.now left.now marks.new (length order.now) }
 {
     for (x, number) in order.iter().enumerate() {
-        let j = usize::from(*number);
+        let j = subtask_in(*number).0;
         rank[j] = x as u16;
         if left[j] == 0 {
             marks.mark(x);
