@@ -3,13 +3,17 @@
 
 mod stored;
 
+ghost use Rattle.std.specs.Prelude.{◌≤◌, length, IfOk};
+
 use crate::stored::agrees;
 use std::io::Read;
 use std::rt::Files;
 use std::{fs, io, str};
 
 // What a file of data/ begins with, as far as the buffer has room. Paths are text: a name that is none names no file, and nothing is read.
-fn read_file<'a>(rt: &impl Files, name: &[u8], buffer: &'a mut [u8]) -> io::Result<&'a [u8]> {
+fn read_file<'a>(rt: &impl Files, name: &[u8], buffer: &'a mut [u8]) -> io::Result<&'a [u8]>
+    ensures { IfOk result (λ front. length front.now ≤ length buffer.old) }
+{
     let Ok(path) = str::from_utf8(name) else {
         return Ok(&[]);
     };
