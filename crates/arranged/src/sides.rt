@@ -2,6 +2,9 @@
 ghost use Rattle.std.specs.Prelude.{◌≡◌};
 ghost use Rattle.arranged.specs.Sides.{end, other_of};
 
+use inputs::arrow_of;
+use terms::Arrow;
+
 // Where it comes from, or where it goes to.
 #[derive(Clone, Copy)]
 pub enum Side {
@@ -23,10 +26,10 @@ impl Side {
     pub fn of(self, ends: [u16; 2]) -> usize
         ensures { result ≡ end self ends }
     {
-        let [from, to] = ends;
+        let Arrow { from, to } = arrow_of(&ends);
         match self {
-            Side::From => usize::from(from),
-            Side::To => usize::from(to),
+            Side::From => from.0,
+            Side::To => to.0,
         }
     }
 }

@@ -4,6 +4,7 @@ ghost use Rattle.terms.specs.Graphs.{from_of, to_of};
 ghost use Rattle.graph.specs.Chains.{Tidy};
 ghost use Rattle.graph.specs.Links.{IsEmpty, Linked};
 
+use inputs::arrow_of;
 use terms::Subtask;
 
 // For each subtask the chain of the arrows into it, the latest first: `first` holds the position of that one, `next` of the one before it,
@@ -33,8 +34,8 @@ impl Links {
         requires empty { IsEmpty self.old }
         ensures { Linked arrows.now self.new }
     {
-        for (i, &[_, to]) in arrows.iter().enumerate() {
-            let v = usize::from(to);
+        for (i, ends) in arrows.iter().enumerate() {
+            let v = arrow_of(ends).to.0;
             self.next[i] = self.first[v] as u16;
             self.first[v] = (i + 1) as u32;
         }
@@ -73,8 +74,7 @@ impl<'a> Chained<'a> {
         requires { (1 ≤ c) × (c ≤ length self.now.arrows.now) }
         ensures { (result.0 ≡ from_of self.now.arrows.now (c - 1)) × (result.0 < 65536) }
     {
-        let [from, _] = self.arrows[c - 1];
-        Subtask(usize::from(from))
+        arrow_of(&self.arrows[c - 1]).from
     }
 
     // The subtask to which it goes.
@@ -82,7 +82,6 @@ impl<'a> Chained<'a> {
         requires { (1 ≤ c) × (c ≤ length self.now.arrows.now) }
         ensures { (result.0 ≡ to_of self.now.arrows.now (c - 1)) × (result.0 < 65536) }
     {
-        let [_, to] = self.arrows[c - 1];
-        Subtask(usize::from(to))
+        arrow_of(&self.arrows[c - 1]).to
     }
 }

@@ -5,7 +5,7 @@ ghost use Rattle.graph.specs.Ordered.{Ordered};
 ghost use Rattle.graph.specs.Latest.{Latest};
 
 use crate::chains::Chained;
-use inputs::time_of;
+use inputs::{time_in, time_of};
 use terms::Subtask;
 
 // C: the sum of all times.
@@ -13,7 +13,7 @@ pub fn total(times: &[u16]) -> u32
     requires { length times.now ≤ 256 }
     ensures { result ≡ total_work times.now }
 {
-    times.iter().map(|&time| u32::from(time)).sum()
+    times.iter().map(|&time| time_in(time)).sum()
 }
 
 // The largest finish of the subtasks from which an arrow of the chain goes to v, 0 for none.

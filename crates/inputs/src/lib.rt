@@ -4,7 +4,7 @@
 
 ghost use Rattle.std.specs.Prelude.{◌≡◌, ℕ, ◌+◌, ◌<◌, max, length, get_or};
 ghost use Rattle.terms.specs.Graphs.{from_of, to_of};
-ghost use Rattle.inputs.specs.Lent.{IsTimeOf, IsArrowAt};
+ghost use Rattle.inputs.specs.Lent.{IsTimeOf, IsArrowOf, IsArrowAt};
 
 use terms::{Arrow, Subtask};
 
@@ -41,6 +41,31 @@ pub fn larger(a: u32, b: u32) -> u32
     a.max(b)
 }
 
+// The time that an entry of a row of times holds.
+pub fn time_in(held: u16) -> u32
+    ensures { (result ≡ held) × (result < 65536) }
+{
+    u32::from(held)
+}
+
+// The arrow of the two ends that an entry of a row of arrows holds.
+pub fn arrow_of(ends: &[u16; 2]) -> Arrow
+    ensures { IsArrowOf ends.now result }
+{
+    let [from, to] = *ends;
+    Arrow {
+        from: Subtask(usize::from(from)),
+        to: Subtask(usize::from(to)),
+    }
+}
+
+// The subtask that an entry of an order names.
+pub fn subtask_in(held: u16) -> Subtask
+    ensures { (result.0 ≡ held) × (result.0 < 65536) }
+{
+    Subtask(usize::from(held))
+}
+
 // The time of a subtask, and 0 for a number that is none: docs/STATEMENTS.md promises a number, as of the four below, so no `Option`.
 pub fn time_of(times: &[u16], subtask: Subtask) -> u32
     ensures { IsTimeOf times.now subtask.0 result }
@@ -49,7 +74,7 @@ pub fn time_of(times: &[u16], subtask: Subtask) -> u32
     if j < 1 || times.len() < j {
         return 0;
     }
-    u32::from(times[j - 1])
+    time_in(times[j - 1])
 }
 
 // The arrow at a place of the row.
@@ -62,11 +87,7 @@ pub fn arrow_at(arrows: &[[u16; 2]], place: usize) -> Arrow
             to: Subtask(0),
         };
     }
-    let [from, to] = arrows[place];
-    Arrow {
-        from: Subtask(usize::from(from)),
-        to: Subtask(usize::from(to)),
-    }
+    arrow_of(&arrows[place])
 }
 
 // Where it comes from.
@@ -88,7 +109,7 @@ pub fn subtask_at(order: &[u16], place: usize) -> Subtask
     ensures { (result.0 ≡ get_or order.now place 0) × (result.0 < 65536) }
 {
     match order.get(place) {
-        Some(number) => Subtask(usize::from(*number)),
+        Some(held) => subtask_in(*held),
         None => Subtask(0),
     }
 }

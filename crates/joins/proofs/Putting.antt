@@ -1,19 +1,32 @@
--- A run of arrows put down one by one. Assumes nothing.
-use Rattle.std.proofs.Common.{◌≡◌, refl, sym, ap, ap₂, ◌∙◌, ℕ, ◌+◌, ◌-◌, ◌<◌, List, [], ◌∷◌, ◌++◌, length, take, drop, get_or, arith, set, append_assoc}
-use Rattle.std.proofs.lemmas.List.{length-map, map-append, length-take-le, take_more, take_at, drop_at, drop-drop}
-use borrow.Rule.Slice.PartMut.{put_mid}
-use Rattle.std.proofs.lemmas.List.Edits.{sets}
+-- Numbers, and a run of arrows, put down one by one. Assumes nothing.
+use Rattle.std.proofs.Common.{◌≡◌, sym, ap, ap₂, ◌∙◌, ℕ, ◌+◌, ◌≤◌, ◌<◌, List, [], ◌∷◌, ◌++◌, length, take, drop, get_or, arith, set, length-append}
+use Rattle.std.proofs.lemmas.List.{length-map, map-append, length-take-le, take_more}
+use Rattle.std.proofs.lemmas.List.Edits.{sets, sets-eq}
 use Rattle.std.proofs.Math.Seq.{take-length}
 use Rattle.theory.proofs.Stores.{sets_append}
 use Rattle.joins.specs.Puts.{run_of}
 
--- one part of a row written, and then the part behind it
-pub parts_put : (xs ys row xs' ys' : List ℕ) → xs' ≡ xs → ys' ≡ ys
-    → put_mid (length xs) (length xs + length ys - length xs) (xs' ++ drop (length xs) row) ys' ≡ xs ++ ys ++ drop (length xs + length ys) row
-parts_put xs ys row xs' ys' e d =
-    let m : length xs + length ys - length xs ≡ length ys = omega arith in
-    rw (e, d, m, take_at xs (drop (length xs) row) (length xs) refl, drop_at xs (drop (length xs) row) (length xs) refl, drop-drop (length ys) (length xs) row)
-    (sym (append_assoc xs ys (drop (length xs + length ys) row)))
+module _ (numbers before : List ℕ) (at : ℕ) where
+  -- the first i numbers are put
+  abbrev pub PutNumbers : List ℕ → ℕ → Type 0
+  PutNumbers row i = row ≡ sets before at (take i numbers)
+
+  pub number_more : {row : List ℕ} {i : ℕ} → i < length numbers → PutNumbers row i → PutNumbers (set row (at + i) (get_or numbers i 0)) (i + 1)
+  number_more {row} {i} l e =
+      let size : length (take i numbers) ≡ i = length-take-le i numbers (omega (arith, l)) in
+      ap₂ (λ (r : List ℕ) (k : ℕ). set r k (get_or numbers i 0)) e (omega (arith, size))
+      ∙ sym (sets_append before at (take i numbers) (get_or numbers i 0 ∷ []))
+      ∙ ap (λ (r : List ℕ). sets before at r) (sym (take_more numbers i 0 l))
+
+-- some numbers put at the front of a row, and then some behind them
+pub numbers_put : (first second row : List ℕ) {between after : List ℕ} → length first + length second ≤ length row → between ≡ sets row 0 first → after ≡ sets between (length first) second
+    → after ≡ first ++ second ++ drop (length first + length second) row
+numbers_put first second row room e d =
+    let z : length first ≡ 0 + length first = omega arith in
+    let long : 0 + length (first ++ second) ≤ length row = omega (arith, length-append first second, room) in
+    d ∙ ap₂ (λ (r : List ℕ) (i : ℕ). sets r i second) e z ∙ sym (sets_append row 0 first second)
+    ∙ sets-eq (first ++ second) row 0 long
+    ∙ ap (λ (k : ℕ). first ++ second ++ drop k row) (omega (arith, length-append first second))
 
 module _ (from up : ℕ) (numbers : List ℕ) (before : List (List ℕ)) (at : ℕ) where
   -- those to the first i numbers are put

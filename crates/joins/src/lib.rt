@@ -14,7 +14,7 @@ ghost use Rattle.joins.specs.Tables.{Joinable};
 
 use crate::checks::{check_both, check_made};
 use crate::graphs::Lent;
-use crate::puts::put_graph;
+use crate::puts::{put_graph, put_numbers};
 use arranged::{firsts, lasts};
 use nests::figures_of;
 use terms::{GraphSize, Refusal, Weights};
@@ -38,8 +38,8 @@ fn put_joined(
         (graph_of second.entry.times.now second.entry.arrows.now)).arrows }
 {
     let n = first.times.len();
-    times[..n].copy_from_slice(first.times);
-    times[n..n + second.times.len()].copy_from_slice(second.times);
+    put_numbers(times, 0, first.times);
+    put_numbers(times, n, second.times);
     let behind = put_graph(arrows, 0, 0, first, targets);
     put_graph(arrows, behind, n, second, &[]);
 }

@@ -1,4 +1,4 @@
-// Arrows put down in a lent row, from a place on: the row has room for them.
+// Arrows and times put down in lent rows, from a place on: the rows have room for them.
 ghost use Rattle.std.specs.Prelude.{◌≡◌, ℕ, ◌+◌, ◌≤◌, ◌<◌, length, get_or};
 ghost use Rattle.std.proofs.lemmas.List.Edits.{sets};
 ghost use Rattle.terms.specs.Joins.{graph_of};
@@ -8,6 +8,16 @@ ghost use Rattle.joins.specs.Puts.{Puts, run_of, rows_arrows, SmallRows, Moves};
 
 use crate::graphs::Lent;
 use arranged::by_from;
+
+// Some numbers. (One by one: the library's `copy_from_slice` asks memmove of whoever links the planner.)
+pub fn put_numbers(row: &mut [u16], at: usize, numbers: &[u16])
+    requires { at + length numbers.now ≤ length row.old }
+    ensures { row.new ≡ sets row.old at numbers.now }
+{
+    for (i, &number) in numbers.iter().enumerate() {
+        row[at + i] = number;
+    }
+}
 
 // The arrows from one number to each of some others, these moved up.
 fn put_run(arrows: &mut [[u16; 2]], at: usize, from: usize, up: usize, numbers: &[u16])

@@ -7,6 +7,7 @@ ghost use Rattle.terms.specs.Replies.{IsCheck};
 ghost use Rattle.theory.specs.Flags.{Says};
 ghost use Rattle.limits.specs.Times.{AllTakeTime};
 
+use inputs::time_in;
 use terms::{LONGEST_DEADLINE, MOST_ARROWS, MOST_PROCESSORS, MOST_SUBTASKS, Refusal, Subtask};
 
 // 2: whether every subtask takes some time. None ends the loop early, so that many are looked at together.
@@ -15,7 +16,7 @@ fn all_take_time(times: &[u16]) -> bool
 {
     let mut all = true;
     for time in times {
-        all &= *time != 0;
+        all &= time_in(*time) != 0;
     }
     all
 }
@@ -24,7 +25,7 @@ fn all_take_time(times: &[u16]) -> bool
 fn first_nought(times: &[u16]) -> Option<usize>
     ensures { result ≡ position (λ time. time == 0) times.now }
 {
-    times.iter().position(|time| *time == 0)
+    times.iter().position(|time| time_in(*time) == 0)
 }
 
 // 1 and 2.

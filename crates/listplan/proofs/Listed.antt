@@ -16,14 +16,14 @@ use Rattle.theory.proofs.Accepted.{accepted_graph, sound_on}
 use Rattle.theory.proofs.Work.{total_small}
 use Rattle.theory.proofs.ListRule.{by_rule, ends_early}
 use Rattle.theory.proofs.ListPlans.{list_plan_accepted}
-use Rattle.forms.specs.Forms.{last_end}
+use Rattle.forms.specs.Forms.{plan_end}
 use Rattle.forms.proofs.PlanEnds.{plan_ends}
 
 -- ---- the plan
 
 module _ {times : List ℕ} {arrows : List (List ℕ)} {M : ℕ} {order : List ℕ} {P : List Entry} (bits : In16Bits times) (on : Accepted (on_rows times arrows M))
     (o : IsOrder times order) (plan : IsListPlan times arrows order M P) (whole : length P ≡ length times) {E : ℕ}
-    (last : E ≡ last_end times P (min (length times) (length P))) where
+    (last : E ≡ plan_end times P (min (length times) (length P))) where
   g : SoundGraph times arrows
   g = (sound_on times arrows M on).0
 

@@ -13,7 +13,7 @@ ghost use Rattle.terms.specs.Replies.{IsListed};
 
 use crate::order::is_order;
 use crate::rule::make_plan;
-use forms::last_end;
+use forms::plan_end;
 use graph::check_on;
 use terms::{Entry, Refusal};
 
@@ -37,5 +37,5 @@ pub fn list_plan(
     }
     let row = &mut plan[..n];
     make_plan(times, arrows, m as usize, order, row);
-    Ok(last_end(times, row) as u32)
+    Ok(plan_end(times, row) as u32)
 }

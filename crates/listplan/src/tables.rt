@@ -5,6 +5,8 @@ ghost use Rattle.graph.specs.Chains.{Chains};
 ghost use Rattle.listplan.specs.Tables.{Roomy, ArrowsTo, Distinct, Ranks, Sources};
 
 use crate::marks::Marks;
+use inputs::{arrow_of, subtask_in};
+use terms::Arrow;
 
 // For each subtask the chain of the arrows from it, the latest first: `first` holds the position of that one, `next` of the one before
 // it. And how many arrows go to each subtask.
@@ -19,11 +21,12 @@ pub fn chain_arrows(
     ensures chains { Chains (from_of arrows.now) first.new next.new (length arrows.now) }
     ensures arrows_to { ArrowsTo arrows.now left.new (length arrows.now) }
 {
-    for (i, &[from, to]) in arrows.iter().enumerate() {
-        let u = usize::from(from);
+    for (i, ends) in arrows.iter().enumerate() {
+        let Arrow { from, to } = arrow_of(ends);
+        let u = from.0;
         next[i] = first[u];
         first[u] = (i + 1) as u16;
-        left[usize::from(to)] += 1;
+        left[to.0] += 1;
     }
 }
 
@@ -35,7 +38,7 @@ pub fn rank_subtasks(order: &[u16], left: &[u16; 257], rank: &mut [u16; 257], ma
     ensures sources { Sources order.now left.now marks.new (length order.now) }
 {
     for (x, number) in order.iter().enumerate() {
-        let j = usize::from(*number);
+        let j = subtask_in(*number).0;
         rank[j] = x as u16;
         if left[j] == 0 {
             marks.mark(x);

@@ -85,17 +85,20 @@ pub fn sequence_at(row: &[[u32; 3]], at: usize, depth: usize) -> Option<Walk>
     ensures { OpenerAt end_to_end depth row.now at result }
 {
     let members = members_at(row, at, 1)?;
-    let deeper = depth.checked_sub(1)?;
+    if depth < 1 {
+        return None;
+    }
     let mut walk = Walk {
         next: at + 1,
         c: 0,
         p: 0,
     };
     for _ in 0..members {
-        walk = match graph_at(row, walk.next) {
-            Some(graph) => walk.then(graph),
-            None => walk.then(group_at(row, walk.next, deeper)?),
+        let member = match graph_at(row, walk.next) {
+            Some(graph) => graph,
+            None => group_at(row, walk.next, depth - 1)?,
         };
+        walk = walk.then(member);
     }
     Some(walk)
 }
@@ -107,17 +110,20 @@ fn group_at(row: &[[u32; 3]], at: usize, depth: usize) -> Option<Walk>
     ensures { OpenerAt side_by_side depth row.now at result }
 {
     let members = members_at(row, at, 2)?;
-    let deeper = depth.checked_sub(1)?;
+    if depth < 1 {
+        return None;
+    }
     let mut walk = Walk {
         next: at + 1,
         c: 0,
         p: 0,
     };
     for _ in 0..members {
-        walk = match graph_at(row, walk.next) {
-            Some(graph) => walk.beside(graph),
-            None => walk.beside(sequence_at(row, walk.next, deeper)?),
+        let member = match graph_at(row, walk.next) {
+            Some(graph) => graph,
+            None => sequence_at(row, walk.next, depth - 1)?,
         };
+        walk = walk.beside(member);
     }
     Some(walk)
 }

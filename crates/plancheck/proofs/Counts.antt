@@ -1,5 +1,5 @@
 -- How many run at an instant; the earliest instant at which one idles. Assumes nothing.
-use Rattle.std.proofs.Common.{◌≡◌, refl, sym, ap, ◌∙◌, List, [], ◌∷◌, ℕ, suc, ◌+◌, ◌-◌, ◌≤◌, ◌<◌, Option, None, Some, Bool, true, false, cond, length, get_or, arith, add-one}
+use Rattle.std.proofs.Common.{◌≡◌, refl, sym, ap, ◌∙◌, List, [], ◌∷◌, ℕ, suc, ◌+◌, ◌-◌, ◌≤◌, ◌<◌, ◌%◌, Option, None, Some, Bool, true, false, cond, nat_lt, length, get_or, arith, add-one}
 use Rattle.std.proofs.Math.Decide.{dec_le, dec_lt, ℕ_discrete}
 use Rattle.std.proofs.Math.Logic.{by_cases}
 use Rattle.std.proofs.Math.Nat.{suc_inj}
@@ -25,6 +25,12 @@ one_yes t w x l m = grind (arith, nat_tests)
 
 one_no : (t w : ℕ) (x : Entry) → ¬ ((x.start ≤ t) × (t < x.start + w)) → one t w x ≡ 0
 one_no t w x h = by_cases (dec_le x.start t) (λ l. by_cases (dec_lt t (x.start + w)) (λ m. absurd (h (l, m))) (λ m. grind (arith, nat_tests))) (λ l. grind (arith, nat_tests))
+
+-- counted round the 32 bits, a start after t is further from it than any time
+pub runs_round : (t w : ℕ) (x : Entry) → t < 4294967296 → x.start ≤ 16776960 → w < 65536 → nat_lt ((t + (4294967296 - x.start)) % 4294967296) w ≡ runs_in t w x
+runs_round t w x small low short = by_cases (dec_le x.start t)
+    (λ l. let e : (t + (4294967296 - x.start)) % 4294967296 ≡ t - x.start = omega arith in grind (arith, nat_tests, e))
+    (λ l. let e : (t + (4294967296 - x.start)) % 4294967296 ≡ t + (4294967296 - x.start) = omega arith in grind (arith, nat_tests, e))
 
 pub counted : (t : ℕ) (times : List ℕ) (plan : List Entry) → length plan ≡ length times
     → running_among t times plan ≡ sum (length times) (λ i. one t (get_or times i 0) (get_or plan i not_placed))

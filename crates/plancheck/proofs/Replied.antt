@@ -11,7 +11,7 @@ use Rattle.terms.proofs.Decisions.{told}
 use Rattle.terms.specs.declared.Entry.{Entry}
 use Rattle.theory.proofs.Answers.{refused_first, begin, past_all, stop}
 use Rattle.theory.proofs.Accepted.{sound_on, busy_plan}
-use Rattle.forms.specs.Forms.{last_end}
+use Rattle.forms.specs.Forms.{plan_end}
 use Rattle.forms.proofs.PlanEnds.{plan_ends}
 use Rattle.plancheck.specs.Known.{Given}
 
@@ -31,7 +31,7 @@ pub given_by : {times : List ℕ} {arrows : List (List ℕ)} {M : ℕ} {plan : L
 given_by {times} {arrows} {M} a e = let g = sound_on times arrows M a in record { graph = g.0; processors = g.1; whole = e }
 
 module _ {times : List ℕ} {arrows : List (List ℕ)} {M : ℕ} {plan : List Entry} (given : Given times arrows M plan) {E : ℕ}
-    (last : E ≡ last_end times plan (min (length times) (length plan))) (a : Accepted (check_rows times arrows M plan)) where
+    (last : E ≡ plan_end times plan (min (length times) (length plan))) (a : Accepted (check_rows times arrows M plan)) where
   pub ends_as : IsChecked times arrows M plan (Ok E)
   unfolding IsChecked
   ends_as =

@@ -8,19 +8,21 @@ ghost use Rattle.plancheck.specs.Scans.{Clash, FirstClash, running_among, Idles,
 use crate::Pair;
 use crate::placed::Placed;
 use crate::read::{end_of, entry_of};
+use inputs::time_in;
 use terms::Subtask;
 
 impl Placed<'_> {
-    // Whether j, after i, is on the same processor and each of them starts before the other ends.
+    // Whether j, after i, is on the same processor and each of them starts before the other ends. No test is left out, so that none of them
+    // has to be guessed.
     fn clash(&self, i: Subtask, j: Subtask) -> bool
         requires { IsSubtask self.now.times.now i.0 × IsSubtask self.now.times.now j.0 × (i.0 < j.0) }
         ensures { Says (Clash self.now.times.now self.now.plan.now i.0 j.0) result }
     {
         let one = entry_of(self.plan, i);
         let other = entry_of(self.plan, j);
-        one.processor.0 == other.processor.0
-            && one.start < end_of(self.times, self.plan, j)
-            && other.start < end_of(self.times, self.plan, i)
+        (one.processor.0 == other.processor.0)
+            & (one.start < end_of(self.times, self.plan, j))
+            & (other.start < end_of(self.times, self.plan, i))
     }
 
     // The first subtask after i with which i shares an instant on its processor.
@@ -50,15 +52,14 @@ impl Placed<'_> {
         None
     }
 
-    // How many subtasks run at t. No test is left out, so that many are looked at together.
+    // How many subtasks run at t. What starts after t is by far more than any time behind it, counted round the 32 bits.
     fn running(&self, t: u32) -> u32
         ensures { result ≡ running_among t self.now.times.now self.now.plan.now }
     {
         let mut count: u32 = 0;
         for (place, entry) in self.plan.iter().enumerate() {
-            let time = u32::from(self.times[place]);
-            let runs = (entry.start <= t) & (t.saturating_sub(entry.start) < time);
-            count += u32::from(runs);
+            let time = time_in(self.times[place]);
+            count += u32::from(t.wrapping_sub(entry.start) < time);
         }
         count
     }

@@ -14,7 +14,7 @@ ghost use Rattle.plancheck.specs.Known.{Given};
 
 use crate::placed::Placed;
 use crate::scan::{first_early, first_late, first_misplaced, latest_ends};
-use forms::last_end;
+use forms::plan_end;
 use graph::check_on;
 use terms::{Entry, Refusal, Subtask};
 
@@ -72,5 +72,5 @@ pub fn check_plan(
         return Err(Refusal::PlanLength);
     }
     check_placing(times, arrows, m, plan)?;
-    Ok(last_end(times, plan) as u32)
+    Ok(plan_end(times, plan) as u32)
 }

@@ -7,7 +7,8 @@ ghost use Rattle.theory.specs.First.{IsFirstSubtask};
 ghost use Rattle.plancheck.specs.Known.{Timed, LatestEnds};
 
 use crate::read::end_of;
-use terms::{Entry, LATEST_START, Subtask};
+use inputs::arrow_of;
+use terms::{Arrow, Entry, LATEST_START, Subtask};
 
 // 13: a processor outside 1..m.
 pub fn first_misplaced(plan: &[Entry], m: u32) -> Option<Subtask>
@@ -34,10 +35,10 @@ pub fn latest_ends(times: &[u16], arrows: &[[u16; 2]], plan: &[Entry]) -> [u32; 
     ensures { LatestEnds times.now arrows.now plan.now (length arrows.now) result }
 {
     let mut ready = [0u32; 257];
-    for &[from, to] in arrows {
-        let end = end_of(times, plan, Subtask(usize::from(from)));
-        let to = usize::from(to);
-        ready[to] = ready[to].max(end);
+    for ends in arrows {
+        let Arrow { from, to } = arrow_of(ends);
+        let end = end_of(times, plan, from);
+        ready[to.0] = ready[to.0].max(end);
     }
     ready
 }

@@ -5,7 +5,8 @@ use Rattle.std.proofs.Math.Decide.{dec_le}
 use Rattle.std.proofs.lemmas.List.Edits.{sets, sets-eq}
 use Rattle.std.proofs.Math.Seq.{length-sets}
 use Rattle.theory.proofs.Stores.{sets_append}
-use Rattle.room.specs.Puts.{HasRoom, Stands, Put}
+use Rattle.room.specs.Puts.{HasRoom, Stands, Put, Puts}
+use Rattle.room.specs.declared.Pen.{Pen}
 
 -- ---- one behind the other
 
@@ -46,6 +47,11 @@ one_put {l} {m} {k} {at} {a} {b} {xs} p q = by_cases (dec_le (at + length xs) (l
     (λ h. one_stands (p.whole h) (q.whole h))
     (λ n. let h : length l < at + length xs = omega arith in
     ((p.nothing h).0 ∙ sym (q.nothing h).0, (p.nothing h).1 ∙ sym (q.nothing h).1))
+
+-- by a pen: no second room, no other bytes in it, and no second place
+pub one_puts : {pen after after' : Pen} {bytes : List ℕ} → Puts pen bytes after → Puts pen bytes after'
+    → (after.text.ghost_name ≡ after'.text.ghost_name) × (after.text.now ≡ after'.text.now) × (after.at ≡ after'.at)
+one_puts p q = let one = one_put p.put q.put in (p.same_room ∙ sym q.same_room, one.0, one.1)
 
 -- where there was room
 pub put_whole : {l m : List ℕ} {at a : ℕ} {xs : List ℕ} → HasRoom l at xs → Stands l at xs m a → Put l at xs m a

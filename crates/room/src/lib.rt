@@ -35,9 +35,11 @@ impl Pen<'_> {
     pub fn put_byte(&mut self, b: u8)
         ensures { Puts self.old (b ∷ []) self.new }
     {
-        if self.at < self.text.len() {
-            self.text[self.at] = b;
-            self.at += 1;
+        // the place is taken once: a byte that is put might be its own for all that the compiler knows
+        let at = self.at;
+        if at < self.text.len() {
+            self.text[at] = b;
+            self.at = at + 1;
         }
     }
 

@@ -5,6 +5,7 @@ ghost use Rattle.room.specs.Puts.{HasRoom, Stands, HasRoomFor, Puts, PutsWhole};
 ghost use Rattle.writer.specs.Lines.{task_line, subtasks_text, rows_text, Rows};
 
 use crate::rows::Predecessors;
+use inputs::time_in;
 use room::Pen;
 
 // A further number of a line: a space, and the number.
@@ -45,7 +46,7 @@ fn put_subtasks(pen: &mut Pen, times: &[u16], predecessors: &Predecessors)
 {
     for (i, time) in times.iter().enumerate() {
         let row = predecessors.shown(i + 1);
-        put_line(pen, (i + 1) as u32, u32::from(*time), row);
+        put_line(pen, (i + 1) as u32, time_in(*time), row);
     }
 }
 

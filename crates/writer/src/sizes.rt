@@ -3,6 +3,7 @@ ghost use Rattle.std.specs.Prelude.{◌≡◌, ◌≤◌, length};
 ghost use Rattle.writer.specs.Lines.{task_line, subtasks_text, rows_text, Rows};
 
 use crate::rows::Predecessors;
+use inputs::time_in;
 use room::number_size;
 
 // A task's line: three numbers, two spaces between them and LF; and each further number with a space before it.
@@ -25,7 +26,7 @@ fn subtasks_size(times: &[u16], predecessors: &Predecessors) -> usize
     let mut size: usize = 0;
     for (i, time) in times.iter().enumerate() {
         let row = predecessors.shown(i + 1);
-        size += line_size((i + 1) as u32, u32::from(*time), row);
+        size += line_size((i + 1) as u32, time_in(*time), row);
     }
     size
 }

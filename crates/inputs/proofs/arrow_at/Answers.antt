@@ -18,4 +18,6 @@ returns-then-arrows-place c = record {
 
 pub returns : goal.returns
 unfolding from_of to_of
-returns c = record { begins = c.from.ensures; begins_small = omega arith; arrives = c.from-2.ensures; arrives_small = omega arith }
+returns c =
+    let arrow = c.arrow_of.ensures in
+    record { begins = arrow.begins; begins_small = arrow.begins_small; arrives = arrow.arrives; arrives_small = arrow.arrives_small }

@@ -6,7 +6,7 @@ use Rattle.inputs.proofs.time_of.Goals as goal
 pub returns : goal.returns
 unfolding time_of
 returns c = record {
-  is = λ _. c.from.ensures;
+  is = λ _. c.time_in.ensures.0;
   none = λ none. absurd (none (record { low = omega arith; high = omega arith }));
   small = omega arith;
 }

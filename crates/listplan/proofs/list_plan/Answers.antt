@@ -47,11 +47,11 @@ unfolding IsCheck time_of
 overflow_cast-result c =
     let ordered : IsOrder c.args.times.now c.args.order.now = said c.if-not-is_order.false c.is_order.ensures in
     let bits : In16Bits c.args.times.now = λ j s. omega (arith, c.type_inv.times (j - 1)) in
-    omega (arith, end_small bits c.in_ok-check_on.ensures ordered c.make_plan.ensures.list_plan c.make_plan.ensures.whole c.last_end.ensures)
+    omega (arith, end_small bits c.in_ok-check_on.ensures ordered c.make_plan.ensures.list_plan c.make_plan.ensures.whole c.plan_end.ensures)
 
 pub returns : goal.returns
 unfolding IsCheck time_of
 returns c =
     let ordered : IsOrder c.args.times.now c.args.order.now = said c.if-not-is_order.false c.is_order.ensures in
     let bits : In16Bits c.args.times.now = λ j s. omega (arith, c.type_inv.times (j - 1)) in
-    listed bits c.in_ok-check_on.ensures ordered c.make_plan.ensures.list_plan c.make_plan.ensures.whole c.last_end.ensures _ _ c.if-plan-n.false refl
+    listed bits c.in_ok-check_on.ensures ordered c.make_plan.ensures.list_plan c.make_plan.ensures.whole c.plan_end.ensures _ _ c.if-plan-n.false refl

@@ -31,10 +31,10 @@ unfolding IsCheck time_of
 overflow_cast-result c =
     omega (
       arith,
-      end_small (given_by c.in_ok-check_on.ensures c.if-plan-times.false) c.last_end.ensures c.in_ok-check_placing.ensures
+      end_small (given_by c.in_ok-check_on.ensures c.if-plan-times.false) c.plan_end.ensures c.in_ok-check_placing.ensures
           (λ j s. omega (arith, c.type_inv.times (j - 1))),
     )
 
 pub returns : goal.returns
 unfolding IsCheck
-returns c = ends_as (given_by c.in_ok-check_on.ensures c.if-plan-times.false) c.last_end.ensures c.in_ok-check_placing.ensures
+returns c = ends_as (given_by c.in_ok-check_on.ensures c.if-plan-times.false) c.plan_end.ensures c.in_ok-check_placing.ensures

@@ -9,30 +9,30 @@ loop-i-init c = chained_none c.requires.first_value.0 c.requires.first_value.1 c
 
 pub bounds-first-u : goal.bounds-first-u
 unfolding from_of to_of
-bounds-first-u c = rw c.from-u.ensures (c.requires.roomy.from_small _ (omega arith))
+bounds-first-u c = rw c.arrow_of.ensures.begins (c.requires.roomy.from_small _ (omega arith))
 
 pub bounds-first-u-in-loop-i : goal.bounds-first-u-in-loop-i
 unfolding from_of to_of
-bounds-first-u-in-loop-i c = rw c.from-u.ensures (c.requires.roomy.from_small _ (omega arith))
+bounds-first-u-in-loop-i c = rw c.arrow_of.ensures.begins (c.requires.roomy.from_small _ (omega arith))
 
-pub bounds-left-from : goal.bounds-left-from
+pub bounds-left-to : goal.bounds-left-to
 unfolding from_of to_of
-bounds-left-from c = rw c.from.ensures (c.requires.roomy.to_small _ (omega arith))
+bounds-left-to c = rw c.arrow_of.ensures.arrives (c.requires.roomy.to_small _ (omega arith))
 
-pub bounds-left-from-in-loop-i : goal.bounds-left-from-in-loop-i
+pub bounds-left-to-in-loop-i : goal.bounds-left-to-in-loop-i
 unfolding from_of to_of
-bounds-left-from-in-loop-i c = rw c.from.ensures (c.requires.roomy.to_small _ (omega arith))
+bounds-left-to-in-loop-i c = rw c.arrow_of.ensures.arrives (c.requires.roomy.to_small _ (omega arith))
 
 pub overflow_add-left : goal.overflow_add-left
 unfolding from_of to_of
 overflow_add-left c =
-    let arrow : NextArrow c.args.arrows.now c.loop-i.first c.loop-i.next c.loop-i.left c.loop-i.i c.from-u.result c.from.result =
-    record { so_far = c.loop-i.invariant; roomy = c.requires.roomy; inside = omega arith; begins = c.from-u.ensures; arrives = c.from.ensures } in
+    let arrow : NextArrow c.args.arrows.now c.loop-i.first c.loop-i.next c.loop-i.left c.loop-i.i c.arrow_of.result.from.0 c.arrow_of.result.to.0 =
+    record { so_far = c.loop-i.invariant; roomy = c.requires.roomy; inside = omega arith; begins = c.arrow_of.ensures.begins; arrives = c.arrow_of.ensures.arrives } in
     omega (arith, count_in arrow, place_in arrow)
 
 pub loop-i-preserved : goal.loop-i-preserved
 unfolding from_of to_of
 loop-i-preserved c =
-    let arrow : NextArrow c.args.arrows.now c.loop-i.first c.loop-i.next c.loop-i.left c.loop-i.i c.from-u.result c.from.result =
-    record { so_far = c.loop-i.invariant; roomy = c.requires.roomy; inside = omega arith; begins = c.from-u.ensures; arrives = c.from.ensures } in
+    let arrow : NextArrow c.args.arrows.now c.loop-i.first c.loop-i.next c.loop-i.left c.loop-i.i c.arrow_of.result.from.0 c.arrow_of.result.to.0 =
+    record { so_far = c.loop-i.invariant; roomy = c.requires.roomy; inside = omega arith; begins = c.arrow_of.ensures.begins; arrives = c.arrow_of.ensures.arrives } in
     chained_more arrow

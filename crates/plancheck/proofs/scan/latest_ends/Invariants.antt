@@ -2,5 +2,5 @@
 use Rattle.plancheck.specs.Known.{LatestEnds}
 use Rattle.plancheck.proofs.scan.latest_ends.Given as goal
 
-abbrev pub invariant-loop-from : goal.invariant-loop-from
-invariant-loop-from l = LatestEnds l.times l.arrows l.plan l.from-index l.ready
+abbrev pub invariant-loop-ends : goal.invariant-loop-ends
+invariant-loop-ends l = LatestEnds l.times l.arrows l.plan l.ends-index l.ready

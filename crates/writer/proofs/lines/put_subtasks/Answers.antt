@@ -10,13 +10,13 @@ pub put_line-requires : goal.put_line-requires
 put_line-requires c = (
   c.shown-row.ensures.1,
   line_room _ _ _ c.loop-i.invariant.1
-      (record { below = c.loop-i-test.true; time_is = c.from.ensures; row_is = c.shown-row.ensures.0 }),
+      (record { below = c.loop-i-test.true; time_is = c.time_in.ensures.0; row_is = c.shown-row.ensures.0 }),
 )
 
 pub loop-i-preserved : goal.loop-i-preserved
 loop-i-preserved c = (
   c.put_line.ensures.same_room ∙ c.loop-i.invariant.0,
-  lines_next _ _ _ c.loop-i.invariant.1 (record { below = c.loop-i-test.true; time_is = c.from.ensures; row_is = c.shown-row.ensures.0 }) c.put_line.ensures.stands,
+  lines_next _ _ _ c.loop-i.invariant.1 (record { below = c.loop-i-test.true; time_is = c.time_in.ensures.0; row_is = c.shown-row.ensures.0 }) c.put_line.ensures.stands,
 )
 
 pub returns : goal.returns
